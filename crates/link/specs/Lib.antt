@@ -1,0 +1,5 @@
+pub mod Gates
+pub mod Kinds
+pub mod Meaning
+pub mod Messages
+pub mod Sharing

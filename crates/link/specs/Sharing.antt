@@ -1,0 +1,22 @@
+-- The share: a layer that lets each station have only so many messages waiting.
+use Prim.Native.Nat.{ℕ, min, max}
+use lib.Dec.{ltb}
+use mathlib.Core.Bool.{cond}
+use Rattle.std.specs.shelf.Lists.{countBy}
+use Rattle.link.specs.Gates.{deepened, gate-of}
+use Rattle.link.specs.Meaning.{Meaning}
+use Rattle.link.specs.Messages.{sent-by}
+use Rattle.link.specs.declared.gate.Gate.the-variants.{Closed}
+
+-- the limit in force: 0 counts as 1, and more than 128 as 128
+abbrev pub in-force : ℕ → ℕ
+in-force n = max 1 (min 128 n)
+
+-- the link below, but for the gates: a station with that many messages waiting finds its gate closed at
+-- depth 0, and any other finds the gate below, one deeper
+abbrev pub shared : ℕ → Meaning → Meaning
+shared limit m = record {
+  bag = m .bag;
+  offers = m .offers;
+  gate = λ s. gate-of s (cond (ltb (countBy (sent-by s) (m .bag)) limit) (deepened (m .gate s)) (Closed 0))
+}

@@ -1,0 +1,5 @@
+// Radio links: what a link means, two links that stand alone, and a layer over any link.
+pub mod gate;
+pub mod interface;
+pub mod message;
+pub mod share;

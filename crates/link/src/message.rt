@@ -1,0 +1,75 @@
+// Messages, their kinds, and the keys by which they are told.
+ghost use lib.Dec.{eqb};
+ghost use mathlib.Core.Bool.{true};
+ghost use mathlib.Core.Path.{_≡_};
+ghost use Prim.Native.Nat.{ℕ};
+ghost use Rattle.std.specs.Options.{Cases};
+ghost use Rattle.link.specs.Kinds.{carried, kind-number};
+ghost use Rattle.link.specs.Messages.{between, of-kind, same, sent-by};
+use slots::Matches;
+
+// What a message is about. A copy passes a reference on, dirty and clean tell the owner of a trace to
+// list or unlist the sender, and each has its ack.
+#[derive(Clone, Copy, PartialEq, Eq, Debug)]
+pub enum Kind {
+    Copy,
+    CopyAck,
+    Dirty,
+    DirtyAck,
+    Clean,
+    CleanAck,
+}
+
+impl Kind {
+    // The number by which a message carries the kind.
+    pub fn number(self) -> u8
+        ensures { λ r. ⌜ r ≡ kind-number self ⌝ }
+    {
+        match self {
+            Kind::Copy => 1,
+            Kind::CopyAck => 2,
+            Kind::Dirty => 3,
+            Kind::DirtyAck => 4,
+            Kind::Clean => 5,
+            Kind::CleanAck => 6,
+        }
+    }
+
+    // The kind with this number, if there is one.
+    pub fn of(number: u8) -> Option<Kind>
+        ensures { λ r. ⌜ Cases r ((k : Kind) → kind-number k ≡ number → ⊥) (λ k. kind-number k ≡ number) ⌝ }
+    {
+        match number {
+            1 => Some(Kind::Copy),
+            2 => Some(Kind::CopyAck),
+            3 => Some(Kind::Dirty),
+            4 => Some(Kind::DirtyAck),
+            5 => Some(Kind::Clean),
+            6 => Some(Kind::CleanAck),
+            _ => None,
+        }
+    }
+}
+
+// A message as the radio has it: its kind is a number, since a radio can carry any.
+#[derive(Clone, Copy, PartialEq, Eq, Debug)]
+pub struct Message {
+    pub kind: u8,
+    pub sender: u8,
+    pub receiver: u8,
+    pub trace: u8,
+    pub packet: u32,
+}
+
+impl Message {
+    // A message of one of the six kinds; all but copies and copy acks carry packet number 0.
+    pub fn new(kind: Kind, sender: u8, receiver: u8, trace: u8, packet: u32) -> Message
+        ensures { λ r. ⌜ r ≡ record { kind = kind-number kind; sender = sender; receiver = receiver; trace = trace; packet = carried kind packet } ⌝ }
+    {
+        let packet = match kind {
+            Kind::Copy | Kind::CopyAck => packet,
+            _ => 0,
+        };
+        Message { kind: kind.number(), sender, receiver, trace, packet }
+    }
+}
