@@ -1,3 +1,4 @@
+pub mod Ends
 pub mod Gates
 pub mod Kinds
 pub mod Meaning

@@ -1,6 +1,6 @@
 // Gates: whether a station may post, and the link's refusal.
 ghost use mathlib.Core.Path.{_≡_};
-ghost use Rattle.link.specs.Gates.{deepened};
+ghost use Rattle.link.specs.Gates.{deepened, passed};
 
 // A station's gate: open, or closed at a depth, which says how many layers up from there the answer came.
 #[derive(Clone, Copy, PartialEq, Eq, Debug)]
@@ -23,6 +23,16 @@ impl Gate {
         match self {
             Gate::Open => Gate::Open,
             Gate::Closed(depth) => Gate::Closed(depth.saturating_add(1)),
+        }
+    }
+
+    // Lets a message through an open gate; a closed one refuses it with its depth.
+    pub fn pass(self) -> Result<(), GateClosed>
+        ensures { λ r. ⌜ r ≡ passed self ⌝ }
+    {
+        match self {
+            Gate::Open => Ok(()),
+            Gate::Closed(depth) => Err(GateClosed { depth }),
         }
     }
 }

@@ -38,10 +38,8 @@ pub impl<L: Link> Link for Share<L> as ShareLink {
     }
 
     fn post(&mut self, message: Message) -> Result<(), GateClosed> {
-        match self.gate(message.sender) {
-            Gate::Open => self.below.post(message),
-            Gate::Closed(depth) => Err(GateClosed { depth }),
-        }
+        self.gate(message.sender).pass()?;
+        self.below.post(message)
     }
 
     fn take(&mut self, place: u32) -> Option<Message> {
