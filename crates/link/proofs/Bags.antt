@@ -36,7 +36,7 @@ alike k m yes′ =
       sender = eqb-true _ _ (b .0);
       receiver = eqb-true _ _ (c .0);
       trace = eqb-true _ _ (d .0);
-      packet = eqb-true _ _ (d .1)
+      packet = eqb-true _ _ (d .1);
     }
 
 pub same-alike : (k m : Message) → Alike k m → same k m ≡ true
@@ -53,7 +53,7 @@ same-is k m yes′ = let a = alike k m yes′ in λ i. record {
   sender = sym (a .sender) i;
   receiver = sym (a .receiver) i;
   trace = sym (a .trace) i;
-  packet = sym (a .packet) i
+  packet = sym (a .packet) i;
 }
 
 pub same-self : (m : Message) → same m m ≡ true
@@ -100,9 +100,9 @@ often-without x m (y ∷ ms) some′ =
     ⊎-elim
     (λ yes′. let one : m ≡ y = same-is m y yes′ in rw (without-yes (same m) y ms yes′, one))
     (λ no′.
-      let less : often m (y ∷ ms) ≡ often m ms = often-cons m y ms ∙ rw no′ (omega arith) in
-      let more : 0 < often m ms = rw less at some′ in
-      let rest = often-without x m ms more in
-      rw (without-no (same m) y ms no′)
-      (omega (arith, often-cons x y ms, often-cons x m (y ∷ without (same m) ms), often-cons x y (without (same m) ms), often-cons x m (without (same m) ms))))
+    let less : often m (y ∷ ms) ≡ often m ms = often-cons m y ms ∙ rw no′ (omega arith) in
+    let more : 0 < often m ms = rw less at some′ in
+    let rest = often-without x m ms more in
+    rw (without-no (same m) y ms no′)
+    (omega (arith, often-cons x y ms, often-cons x m (y ∷ without (same m) ms), often-cons x y (without (same m) ms), often-cons x m (without (same m) ms))))
     (cases-bool (same m y))

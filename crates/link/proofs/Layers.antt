@@ -55,11 +55,11 @@ shared-lawful n m lawful = record {
   few = lawful .few;
   lively = lawful .lively;
   quiet = λ none s inside.
-    gate-inside s _ inside
-    ∙ cond-true _ _ _ (lt-ltb (countBy (sent-by s) (m .bag)) (in-force n) (omega (arith, countBy-le-length (sent-by s) (m .bag))))
-    ∙ ap deepened (lawful .quiet none s inside);
+      gate-inside s _ inside
+      ∙ cond-true _ _ _ (lt-ltb (countBy (sent-by s) (m .bag)) (in-force n) (omega (arith, countBy-le-length (sent-by s) (m .bag))))
+      ∙ ap deepened (lawful .quiet none s inside);
   outside = λ s out. gate-outside s _ out;
   shallow = λ s.
-    shallow-gate s _
-    (cond-both (ltb (countBy (sent-by s) (m .bag)) (in-force n)) (deepened (m .gate s)) (Closed 0) Shallow (λ _. shallow-deepened (m .gate s)) (λ _. shallow-top))
+      shallow-gate s _
+      (cond-both (ltb (countBy (sent-by s) (m .bag)) (in-force n)) (deepened (m .gate s)) (Closed 0) Shallow (λ _. shallow-deepened (m .gate s)) (λ _. shallow-top));
 }

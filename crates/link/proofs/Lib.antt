@@ -1,3 +1,4 @@
 pub mod Bags
 pub mod Ends
+pub mod Fronts
 pub mod Layers

@@ -3,4 +3,5 @@ pub mod Gates
 pub mod Kinds
 pub mod Meaning
 pub mod Messages
+pub mod Queues
 pub mod Sharing

@@ -18,5 +18,5 @@ abbrev pub shared : ℕ → Meaning → Meaning
 shared limit m = record {
   bag = m .bag;
   offers = m .offers;
-  gate = λ s. gate-of s (cond (ltb (countBy (sent-by s) (m .bag)) limit) (deepened (m .gate s)) (Closed 0))
+  gate = λ s. gate-of s (cond (ltb (countBy (sent-by s) (m .bag)) limit) (deepened (m .gate s)) (Closed 0));
 }

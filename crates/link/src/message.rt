@@ -70,6 +70,12 @@ impl Message {
             Kind::Copy | Kind::CopyAck => packet,
             _ => 0,
         };
-        Message { kind: kind.number(), sender, receiver, trace, packet }
+        Message {
+            kind: kind.number(),
+            sender,
+            receiver,
+            trace,
+            packet,
+        }
     }
 }

@@ -7,6 +7,7 @@ ghost use Prim.Native.Nat.{ℕ, _≤_};
 ghost use Rattle.std.specs.Results.{isOk};
 ghost use Rattle.std.specs.declared.result.Result.the-variants.{Ok, Err};
 ghost use Rattle.std.specs.shelf.Lists.{countBy};
+ghost use Rattle.std.specs.shelf.Maps.{nth};
 ghost use Rattle.slots.specs.Entries.{Packed, entries, first, without};
 ghost use Rattle.link.specs.Ends.{Enqueued, end-gate};
 ghost use Rattle.link.specs.Messages.{same};
@@ -52,6 +53,17 @@ impl Places {
         ensures bound { λ r. ⌜ r ≤ 128 ⌝ }
     {
         self.count(&Every)
+    }
+
+    // The message at a place, oldest first.
+    pub fn at(&self, place: u32) -> Option<Message>
+        ensures { λ r. ⌜ r ≡ nth (entries (now (self .entry) .slots)) place ⌝ }
+    {
+        if place < 128 {
+            self.slots[place as usize]
+        } else {
+            None
+        }
     }
 
     // A station's gate: closed for every station while all places are taken.

@@ -5,8 +5,9 @@ use mathlib.Core.Bool.{Bool, true, false, cond}
 use mathlib.Core.List.{List, [], _∷_, _++_}
 use mathlib.Core.Path.{_≡_, refl, ap, sym, _∙_}
 use lib.ListN.{length, take, drop, getD}
+use Rattle.std.specs.Vec.{listOf}
 use Rattle.std.specs.shelf.Lists.{countBy}
-use Rattle.std.proofs.shelf.Lists.{take-more, length-append, length-take-le, append-nil}
+use Rattle.std.proofs.shelf.Lists.{drop-more, take-more}
 use Rattle.std.proofs.shelf.Sums.{sumBy-cons, sumBy-append, countBy-le-length}
 use Rattle.std.specs.declared.option.Option.{Option}
 use Rattle.std.specs.declared.option.Option.the-variants.{None, Some}
@@ -26,18 +27,36 @@ module _ {E : Type 0} where
   entries-le (None ∷ xs) = omega (arith, entries-le xs)
   entries-le (Some x ∷ xs) = omega (arith, entries-le xs)
 
+  -- one place more of a table, and one less of what is left
+  entries-one : (o : Option E) → entries (o ∷ []) ≡ listOf o
+  unfolding entries
+  entries-one None = refl
+  entries-one (Some x) = refl
+
+  pub entries-take-more : (xs : List (Option E)) (i : ℕ) (d : Option E) → i < length xs → entries (take (i + 1) xs) ≡ entries (take i xs) ++ listOf (getD xs i d)
+  entries-take-more xs i d within =
+      ap entries (take-more xs i d within)
+      ∙ entries-append (take i xs) (getD xs i d ∷ [])
+      ∙ ap (λ ys. entries (take i xs) ++ ys) (entries-one (getD xs i d))
+
+  entries-cons : (o : Option E) (xs : List (Option E)) → entries (o ∷ xs) ≡ listOf o ++ entries xs
+  unfolding entries
+  entries-cons None xs = refl
+  entries-cons (Some x) xs = refl
+
+  pub entries-drop-more : (xs : List (Option E)) (i : ℕ) (d : Option E) → i < length xs → entries (drop i xs) ≡ listOf (getD xs i d) ++ entries (drop (i + 1) xs)
+  entries-drop-more xs i d within = ap entries (drop-more xs i d within) ∙ entries-cons (getD xs i d) (drop (i + 1) xs)
+
   module _ (p : E → Bool) where
     pub times-none : (xs : List (Option E)) → times p (None ∷ xs) ≡ times p xs
     unfolding times entries
     times-none xs = refl
 
     pub times-some : (x : E) (xs : List (Option E)) → times p (Some x ∷ xs) ≡ cond (p x) 1 0 + times p xs
-
     unfolding times entries
     times-some x xs = sumBy-cons (λ y. cond (p y) 1 0) x (entries xs)
 
     pub times-append : (xs ys : List (Option E)) → times p (xs ++ ys) ≡ times p xs + times p ys
-
     unfolding times
     times-append xs ys =
         ap (countBy p) (entries-append xs ys) ∙ sumBy-append (λ y. cond (p y) 1 0) (entries xs) (entries ys)
@@ -48,7 +67,6 @@ module _ {E : Type 0} where
     times-le xs = omega (arith, entries-le xs, countBy-le-length p (entries xs))
 
     times-one : (o : Option E) → times p (o ∷ []) ≡ cond (hit p o) 1 0
-
     unfolding times entries
     times-one None = refl
     times-one (Some x) = times-some x [] ∙ omega arith

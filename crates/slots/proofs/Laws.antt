@@ -7,11 +7,13 @@ use mathlib.Core.Bool.{Bool, true, false, cond}
 use mathlib.Core.List.{List, [], _∷_, _++_}
 use mathlib.Core.Logic.{⊎-elim}
 use mathlib.Core.Path.{_≡_, refl, ap, sym, subst, _∙_}
-use lib.ListN.{length}
+use native.Mathlib.Nat.{le-of-suc-le-suc}
+use lib.ListN.{getD, length}
 use Rattle.std.proofs.shelf.Lists.{append-nil, length-push, nil-from-length}
 use Rattle.std.proofs.shelf.Sums.{leading-le-length}
 use Rattle.std.proofs.shelf.Tests.{cases-bool, cond-both, cond-false, cond-true}
 use Rattle.std.specs.Options.{isSome}
+use Rattle.std.specs.shelf.Maps.{nth}
 use Rattle.std.specs.shelf.Lists.{countBy, leading}
 use Rattle.std.specs.declared.option.Option.{Option}
 use Rattle.std.specs.declared.option.Option.the-variants.{None, Some}
@@ -89,8 +91,8 @@ module _ {E : Type 0} where
         ⊎-elim
         (λ yes′. (x, first-yes x xs yes′))
         (λ no′.
-          let less : times p xs ≡ times p (Some x ∷ xs) = sym (times-some p x xs ∙ ap (λ b. cond b 1 0 + times p xs) no′ ∙ omega arith) in
-          let found = first-found xs (omega arith) in (found .0, first-no x xs no′ ∙ found .1))
+        let less : times p xs ≡ times p (Some x ∷ xs) = sym (times-some p x xs ∙ ap (λ b. cond b 1 0 + times p xs) no′ ∙ omega arith) in
+        let found = first-found xs (omega arith) in (found .0, first-no x xs no′ ∙ found .1))
         (cases-bool (p x))
 
     -- the entry that goes is counted once less, and every other as before
@@ -102,11 +104,11 @@ module _ {E : Type 0} where
     times-struck q (Some x ∷ xs) y is =
         ⊎-elim
         (λ yes′.
-          let same : x ≡ y = cc (sym (first-yes x xs yes′) ∙ is) in
-          rw (struck-yes x xs yes′, ← same) (omega (arith, times-append q xs (None ∷ []), times-none q [], times-le q [], times-some q x xs)))
+        let same : x ≡ y = cc (sym (first-yes x xs yes′) ∙ is) in
+        rw (struck-yes x xs yes′, ← same) (omega (arith, times-append q xs (None ∷ []), times-none q [], times-le q [], times-some q x xs)))
         (λ no′.
-          let rest = times-struck q xs y (sym (first-no x xs no′) ∙ is) in
-          rw (struck-no x xs no′) (omega (arith, times-some q x (struck p xs), times-some q x xs)))
+        let rest = times-struck q xs y (sym (first-no x xs no′) ∙ is) in
+        rw (struck-no x xs no′) (omega (arith, times-some q x (struck p xs), times-some q x xs)))
         (cases-bool (p x))
 
     -- the other entries keep their order
@@ -155,3 +157,14 @@ module _ {E : Type 0} where
   packed-struck p (Some x ∷ xs) packed =
       cond-both (p x) (xs ++ (None ∷ [])) (Some x ∷ struck p xs) Packed
       (λ _. packed-push xs (omega arith)) (λ _. omega (arith, packed-struck p xs (omega arith)))
+
+  -- in a packed table an entry stands at its own number
+  pub nth-packed : (xs : List (Option E)) (i : ℕ) (d : Option E) → Packed xs → i < length xs → nth (entries xs) i ≡ getD xs i d
+  unfolding entries
+  nth-packed [] i d packed within = absurd (omega arith)
+  nth-packed (None ∷ xs) zero d packed within = ap (λ ys. nth ys 0) (nil-from-length (entries xs) (sym packed))
+  nth-packed (None ∷ xs) (suc i) d packed within =
+      let none = nil-from-length (entries xs) (sym packed) in
+      ap (λ ys. nth ys (suc i)) none ∙ sym (ap (λ ys. nth ys i) none) ∙ nth-packed xs i d (leading-empty xs (sym packed) ∙ packed) (le-of-suc-le-suc within)
+  nth-packed (Some x ∷ xs) zero d packed within = refl
+  nth-packed (Some x ∷ xs) (suc i) d packed within = nth-packed xs i d (omega arith) (le-of-suc-le-suc within)

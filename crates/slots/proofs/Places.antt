@@ -48,7 +48,6 @@ module _ {E : Type 0} where
   room-at (Some x ∷ xs) (suc i) d within here = omega (arith, room-at xs i d (le-of-suc-le-suc within) here)
 
   pub placed-full : (e : E) (xs : List (Option E)) → length xs ≤ length (entries xs) → placed e xs ≡ xs
-
   unfolding entries placed
   placed-full e [] full = refl
   placed-full e (None ∷ xs) full = absurd (omega (arith, entries-le xs))

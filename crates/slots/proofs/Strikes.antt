@@ -20,9 +20,9 @@ module _ {E : Type 0} where
   pub gap-closed : (xs ys : List (Option E)) (i : ℕ) → i < length xs → ys ≡ drop 1 (take (length (set xs i None) - i) (drop i (set xs i None))) ++ take 1 (take (length (set xs i None) - i) (drop i (set xs i None))) → putMid i (length (set xs i None) - i) (set xs i None) ys ≡ take i xs ++ (drop (suc i) xs ++ (None ∷ []))
   gap-closed xs ys i within turned =
       let rest : take (length (set xs i None) - i) (drop i (set xs i None)) ≡ None ∷ drop (suc i) xs =
-            take-rest (set xs i None) i ∙ rw add-one at (drop-set xs i None within) in
+      take-rest (set xs i None) i ∙ rw add-one at (drop-set xs i None within) in
       let behind : drop (length (set xs i None) - i) (drop i (set xs i None)) ≡ [] =
-            drop-all (length (set xs i None) - i) (drop i (set xs i None)) (omega (arith, length-drop i (set xs i None))) in
+      drop-all (length (set xs i None) - i) (drop i (set xs i None)) (omega (arith, length-drop i (set xs i None))) in
       let back : ys ≡ drop (suc i) xs ++ (None ∷ []) = rw rest at turned in
       rw (behind, append-nil ys, back, take-set xs i None)
 
@@ -35,7 +35,6 @@ module _ {E : Type 0} where
         let miss = misses p x xs none in cond-false _ _ _ (miss .0) ∙ first-none xs (miss .1)
 
     pub struck-none : (xs : List (Option E)) → times p xs ≡ 0 → struck p xs ≡ xs
-
     unfolding struck
     struck-none [] none = refl
     struck-none (None ∷ xs) none = ap (λ ys. None ∷ ys) (struck-none xs (sym (times-none p xs) ∙ none))
@@ -48,7 +47,6 @@ module _ {E : Type 0} where
     later f none = record { within = le-of-suc-le-suc (f .within); none-before = none; here = f .here }
 
     pub first-at : (xs : List (Option E)) (i : ℕ) (d : Option E) → Found p xs i → first p xs ≡ getD xs i d
-
     unfolding first
     first-at [] i d f = absurd (not-suc-le-zero (f .within))
     first-at (None ∷ xs) zero d f = absurd (false≢true (f .here d))
@@ -59,7 +57,6 @@ module _ {E : Type 0} where
         cond-false _ _ _ (miss .0) ∙ first-at xs i d (later f (miss .1))
 
     pub struck-at : (xs : List (Option E)) (i : ℕ) → Found p xs i → struck p xs ≡ take i xs ++ (drop (suc i) xs ++ (None ∷ []))
-
     unfolding struck
     struck-at [] i f = absurd (not-suc-le-zero (f .within))
     struck-at (None ∷ xs) zero f = absurd (false≢true (f .here None))

@@ -9,9 +9,9 @@ use Rattle.slots.proofs.count.Needs.{then-hits, else-hits}
 pub loop-slot-again : need.loop-slot-again
 loop-slot-again g c =
     let more = times-more (g .E·Matches .fits (c .args .key .now)) (c .args .slots .now) (c .loop-slot .slot-index) (c .slot-item .result) (c .loop-slot-test .taken) (c .slot-item .is) in
-    elim (c .if-hits .came)
-    [ then-hits w ↦ let here = rw (← (w .if-hits .ensures tt)) at more in omega (arith, w .n-is)
-    | else-hits w ↦ let here = rw (← (w .if-hits .ensures tt)) at more in omega (arith, w .n-is)
+    elim (c .if-hits .came) [
+      | then-hits w ↦ let here = rw (← (w .if-hits .ensures tt)) at more in omega (arith, w .n-is)
+      | else-hits w ↦ let here = rw (← (w .if-hits .ensures tt)) at more in omega (arith, w .n-is)
     ]
 
 pub returns : need.returns

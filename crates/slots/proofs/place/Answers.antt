@@ -15,7 +15,7 @@ returns-then-is-none g c =
     let empty = c .if-is-none .ensures tt in
     record {
       after = placed-at _ _ _ _ within (c .loop-i .inv .0) empty ∙ ap (placed (c .args .entry)) same;
-      test = sym (lt-ltb _ _ (rw same at (room-at _ _ _ within empty)))
+      test = sym (lt-ltb _ _ (rw same at (room-at _ _ _ within empty)));
     }
 
 pub loop-i-again : need.loop-i-again
@@ -29,7 +29,7 @@ returns g c =
     let full : length (c .args .slots .now) ≤ length (entries (c .args .slots .now)) = rw (← same) (omega arith) in
     record {
       after = same ∙ sym (placed-full (c .args .entry) _ full);
-      test = sym (le-ltb _ _ full)
+      test = sym (le-ltb _ _ full);
     }
 
 pub loop-i-holds : need.loop-i-holds

@@ -7,7 +7,7 @@ returns-in-Break-at g c =
     let none = c .in-Break-at .ensures tt in
     record {
       value = c .from-residual .ensures ∙ sym (first-none _ _ none);
-      after = sym (struck-none _ _ none)
+      after = sym (struck-none _ _ none);
     }
 
 pub returns : need.returns
@@ -15,5 +15,5 @@ returns g c =
     let found = c .in-Continue-at .ensures tt in
     record {
       value = c .index-slots-at .is ∙ sym (first-at _ _ _ _ found);
-      after = gap-closed _ _ _ (found .within) (c .rotate-left .ensures .after) ∙ sym (struck-at _ _ _ found)
+      after = gap-closed _ _ _ (found .within) (c .rotate-left .ensures .after) ∙ sym (struck-at _ _ _ found);
     }

@@ -20,13 +20,13 @@ by-fields k m true told =
       sender = told .1 .0 .0 refl;
       receiver = told .1 .1 .0 .0 refl;
       trace = told .1 .1 .1 .0 .0 refl;
-      packet = told .1 .1 .1 .1 .0 refl
+      packet = told .1 .1 .1 .1 .0 refl;
     }))
 by-fields k m false told =
     ⊎-elim
     (λ yes′.
-      let a = alike k m yes′ in
-      absurd (told (missed (a .kind)) (missed (a .sender)) (missed (a .receiver)) (missed (a .trace)) (missed (a .packet))))
+    let a = alike k m yes′ in
+    absurd (told (missed (a .kind)) (missed (a .sender)) (missed (a .receiver)) (missed (a .trace)) (missed (a .packet))))
     sym (cases-bool (same k m))
 
 pub returns : need.returns

@@ -12,5 +12,5 @@ pub returns : need.returns
 unfolding times
 returns g c = record {
   value = c .count .ensures;
-  bound = rw (c .count .ensures) (times-few _ _ (c .args .self .now .sized))
+  bound = rw (c .count .ensures) (times-few _ _ (c .args .self .now .sized));
 }

@@ -18,6 +18,6 @@ pub returns : need.returns
 returns c =
     let before = c .args .self .now in
     let way : end-gate (entries (before .slots)) (c .args .message .sender) ≡ Open =
-          open-passed _ (ap passed (sym (c .gate .ensures)) ∙ sym (c .in-Continue-pass .ensures tt)) in
+    open-passed _ (ap passed (sym (c .gate .ensures)) ∙ sym (c .in-Continue-pass .ensures tt)) in
     enqueued (λ p. entries (p .slots)) _ _ _ _ way
     (ap entries (c .place .ensures .after) ∙ entries-placed _ _ (before .packed) (room-open _ _ (before .sized) way))

@@ -13,5 +13,5 @@ ghost-self c =
 pub returns : need.returns
 returns c = record {
   value = c .strike .ensures .value;
-  after = ap entries (c .strike .ensures .after) ∙ entries-struck _ _
+  after = ap entries (c .strike .ensures .after) ∙ entries-struck _ _;
 }
