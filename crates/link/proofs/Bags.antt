@@ -5,15 +5,15 @@ use lib.ListN.{length}
 use mathlib.Core.Bool.{Bool, true, false, cond}
 use mathlib.Core.List.{List, [], _∷_, _++_}
 use mathlib.Core.Logic.{⊎-elim}
-use mathlib.Core.Path.{_≡_, refl, ap, sym, _∙_}
-use Rattle.std.specs.shelf.Lists.{countBy}
+use mathlib.Core.Path.{_≡_, refl, ap, ap₂, sym, _∙_}
+use Rattle.std.specs.shelf.Lists.{countBy, sumBy}
 use Rattle.std.proofs.shelf.Sums.{sumBy-cons, sumBy-push}
 use Rattle.std.proofs.shelf.Tests.{and-from, and-parts, cases-bool, cond-false, cond-true, eq-eqb, eqb-true}
 use Rattle.std.specs.shelf.Maps.{nth}
 use Rattle.std.specs.declared.option.Option.{Option}
 use Rattle.std.specs.declared.option.Option.the-variants.{None, Some}
 use Rattle.slots.specs.Entries.{without}
-use Rattle.link.specs.Messages.{often, same}
+use Rattle.link.specs.Messages.{often, same, SameBag}
 use Rattle.link.specs.declared.message.Message.{Message}
 
 -- the fields of two messages are equal
@@ -93,16 +93,35 @@ without-no : (p : Message → Bool) (y : Message) (ms : List Message) → p y �
 unfolding without
 without-no p y ms no′ = cond-false _ _ _ no′
 
--- without one like m, each message is there as often as before, but for m once less
-pub often-without : (x m : Message) (ms : List Message) → 0 < often m ms → often x ms ≡ often x (m ∷ without (same m) ms)
-often-without x m [] some′ = absurd (omega (arith, often-nil m))
-often-without x m (y ∷ ms) some′ =
+-- a sum over a list, with one like m counted first
+pub sumBy-without : (f : Message → ℕ) (m : Message) (ms : List Message) → 0 < often m ms → sumBy f ms ≡ f m + sumBy f (without (same m) ms)
+sumBy-without f m [] some′ = absurd (omega (arith, often-nil m))
+sumBy-without f m (y ∷ ms) some′ =
     ⊎-elim
-    (λ yes′. let one : m ≡ y = same-is m y yes′ in rw (without-yes (same m) y ms yes′, one))
+    (λ yes′. sumBy-cons f y ms ∙ ap₂ (λ x xs. f x + sumBy f xs) (sym (same-is m y yes′)) (sym (without-yes (same m) y ms yes′)))
     (λ no′.
     let less : often m (y ∷ ms) ≡ often m ms = often-cons m y ms ∙ rw no′ (omega arith) in
     let more : 0 < often m ms = rw less at some′ in
-    let rest = often-without x m ms more in
-    rw (without-no (same m) y ms no′)
-    (omega (arith, often-cons x y ms, often-cons x m (y ∷ without (same m) ms), often-cons x y (without (same m) ms), often-cons x m (without (same m) ms))))
+    let rest = sumBy-without f m ms more in
+    rw (without-no (same m) y ms no′) (omega (arith, sumBy-cons f y ms, sumBy-cons f y (without (same m) ms))))
     (cases-bool (same m y))
+
+-- without one like m, each message is there as often as before, but for m once less
+pub often-without : (x m : Message) (ms : List Message) → 0 < often m ms → often x ms ≡ often x (m ∷ without (same m) ms)
+unfolding often
+often-without x m ms some′ =
+    let f = λ (y : Message). cond (same x y) 1 0 in
+    sumBy-without f m ms some′ ∙ sym (sumBy-cons f m (without (same m) ms))
+
+-- lists with each message equally often have equal sums, and so equal counts: what is asked of a link in
+-- numbers depends on the bag alone
+pub sumBy-same-bag : (f : Message → ℕ) (xs ys : List Message) → SameBag xs ys → sumBy f xs ≡ sumBy f ys
+sumBy-same-bag f [] [] alike′ = refl
+sumBy-same-bag f [] (y ∷ ys) alike′ =
+    absurd (omega (arith, alike′ y, often-nil y, often-cons y y ys ∙ ap (λ b. cond b 1 0 + often y ys) (same-self y)))
+sumBy-same-bag f (x ∷ xs) ys alike′ =
+    let here : often x (x ∷ xs) ≡ 1 + often x xs = often-cons x x xs ∙ ap (λ b. cond b 1 0 + often x xs) (same-self x) in
+    let there : 0 < often x ys = omega (arith, alike′ x) in
+    let rest : SameBag xs (without (same x) ys) =
+          λ m. omega (arith, alike′ m, often-cons m x xs, often-without m x ys there, often-cons m x (without (same x) ys)) in
+    sumBy-cons f x xs ∙ ap (λ n. f x + n) (sumBy-same-bag f xs (without (same x) ys) rest) ∙ sym (sumBy-without f x ys there)

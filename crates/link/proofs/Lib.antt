@@ -1,4 +1,2 @@
 pub mod Bags
-pub mod Ends
-pub mod Fronts
 pub mod Layers

@@ -1,7 +1,5 @@
-pub mod Ends
 pub mod Gates
 pub mod Kinds
 pub mod Meaning
 pub mod Messages
-pub mod Queues
 pub mod Sharing

@@ -1,9 +1,5 @@
-// Radio links: what a link means, two links that stand alone, and a layer over any link.
-pub mod basket;
+// Radio links: what a link means, whatever it is made of, and the share, a layer over any link.
 pub mod gate;
 pub mod interface;
-mod keys;
 pub mod message;
-mod places;
-pub mod row;
 pub mod share;

@@ -1,12 +1,8 @@
 // Messages, their kinds, and the keys by which they are told.
-ghost use lib.Dec.{eqb};
-ghost use mathlib.Core.Bool.{true};
 ghost use mathlib.Core.Path.{_≡_};
 ghost use Prim.Native.Nat.{ℕ};
 ghost use Rattle.std.specs.Options.{Cases};
 ghost use Rattle.link.specs.Kinds.{carried, kind-number};
-ghost use Rattle.link.specs.Messages.{between, of-kind, same, sent-by};
-use slots::Matches;
 
 // What a message is about. A copy passes a reference on, dirty and clean tell the owner of a trace to
 // list or unlist the sender, and each has its ack.

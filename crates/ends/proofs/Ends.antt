@@ -1,0 +1,139 @@
+-- The links that stand alone: what their 128 places hold, and the laws of their meanings.
+use Prim.Native.Nat.{ℕ, zero, suc, _+_, _≤_, _<_}
+use native.Mathlib.Omega.{arith}
+use lib.Dec.{eqb, ltb}
+use lib.ListN.{length}
+use mathlib.Core.Bool.{Bool, true, false, cond}
+use mathlib.Core.List.{List, [], _∷_, _++_}
+use mathlib.Core.Logic.{⊎-elim}
+use mathlib.Core.Path.{_≡_, refl, ap, sym, _∙_}
+use Rattle.std.proofs.shelf.Tests.{cases-bool, cond-both, cond-false, cond-true, eqb-false, ne-eqb}
+use Rattle.std.specs.declared.option.Option.{Option}
+use Rattle.std.specs.declared.option.Option.the-variants.{None, Some}
+use Rattle.std.specs.declared.result.Result.{Result}
+use Rattle.std.specs.declared.result.Result.the-variants.{Ok, Err}
+use Rattle.slots.specs.Entries.{entries, first, times, without}
+use Rattle.slots.proofs.Counts.{entries-le, times-le}
+use Rattle.slots.proofs.Laws.{first-found, first-passes}
+use Rattle.ends.specs.Ends.{basket, crowded, Dequeued, end-gate, Enqueued, fronts, row}
+use Rattle.link.specs.Gates.{gate-of, passed}
+use Rattle.link.specs.Meaning.{Lawful, Meaning, Posted, Taken}
+use Rattle.link.specs.Messages.{often, same}
+use Rattle.link.specs.declared.gate.Gate.{Gate}
+use Rattle.link.specs.declared.gate.Gate.the-variants.{Closed, Open}
+use Rattle.link.specs.declared.gate.GateClosed.{GateClosed}
+use Rattle.link.specs.declared.message.Message.{Message}
+use Rattle.link.proofs.Bags.{often-cons, often-push, often-without, same-is}
+use Rattle.link.proofs.Layers.{gate-inside, gate-outside, Shallow, shallow-gate, shallow-open, shallow-top}
+
+-- no more match than there are places
+pub times-few : (p : Message → Bool) (xs : List (Option Message)) → length xs ≡ 128 → times p xs ≤ 128
+times-few p xs sized = omega (arith, times-le p xs)
+
+pub entries-few : (xs : List (Option Message)) → length xs ≡ 128 → length (entries xs) ≤ 128
+entries-few xs sized = omega (arith, entries-le xs)
+
+-- a gate that lets a message through is open
+pub open-passed : (g : Gate) → passed g ≡ Ok tt → g ≡ Open
+open-passed Open is = refl
+open-passed (Closed d) is = let z : _≡_ {A = ℕ} 0 1 = cc in absurd (omega arith)
+
+-- an open gate is an empty place
+pub room-open : (xs : List (Option Message)) (s : ℕ) → length xs ≡ 128 → end-gate (entries xs) s ≡ Open → length (entries xs) < length xs
+room-open xs s sized is =
+    ⊎-elim
+    (λ full.
+    let shut : end-gate (entries xs) s ≡ Closed 0 = cond-both (ltb s 16) _ (Closed 0) (λ g. g ≡ Closed 0) (λ _. cond-true _ _ _ full) (λ _. refl) in
+    let z : _≡_ {A = ℕ} 0 1 = cc in absurd (omega arith))
+    (λ few. let other = eqb-false (length (entries xs)) 128 few in omega (arith, entries-few xs sized))
+    (cases-bool (eqb (length (entries xs)) 128))
+
+-- the gates of an end keep the laws of gates
+module _ (bag : List Message) where
+  pub end-quiet : length bag ≡ 0 → (s : ℕ) → s < 16 → end-gate bag s ≡ Open
+  end-quiet none s inside = gate-inside s _ inside ∙ cond-false _ _ _ (ne-eqb (length bag) 128 (omega arith))
+
+  pub end-shallow : (s : ℕ) → Shallow (end-gate bag s)
+  end-shallow s = shallow-gate s _ (cond-both (eqb (length bag) 128) (Closed 0) Open Shallow (λ _. shallow-top) (λ _. shallow-open))
+
+pub basket-lawful : (bag : List Message) → length bag ≤ 128 → Lawful (basket bag)
+basket-lawful bag few = record {
+  drawn = λ x. omega arith;
+  few = omega arith;
+  lively = λ some′. some′;
+  quiet = end-quiet bag;
+  outside = λ s out. gate-outside s _ out;
+  shallow = end-shallow bag;
+}
+
+-- the fronts of a queue are drawn from it
+pub fronts-drawn : (older queue : List Message) (x : Message) → often x (fronts older queue) ≤ often x queue
+unfolding fronts
+fronts-drawn older [] x = omega arith
+fronts-drawn older (m ∷ queue) x =
+    let rest = fronts-drawn (older ++ (m ∷ [])) queue x in
+    let more = fronts (older ++ (m ∷ [])) queue in
+    cond-both (crowded m older) more (m ∷ more) (λ ms. often x ms ≤ often x (m ∷ queue))
+    (λ _. omega (arith, often-cons x m queue))
+    (λ _. omega (arith, often-cons x m queue, often-cons x m more))
+
+pub fronts-le : (older queue : List Message) → length (fronts older queue) ≤ length queue
+unfolding fronts
+fronts-le older [] = omega arith
+fronts-le older (m ∷ queue) =
+    let rest = fronts-le (older ++ (m ∷ [])) queue in
+    let more = fronts (older ++ (m ∷ [])) queue in
+    cond-both (crowded m older) more (m ∷ more) (λ ms. length ms ≤ suc (length queue)) (λ _. omega arith) (λ _. omega arith)
+
+-- the oldest message of all is at the front
+pub fronts-some : (queue : List Message) → 0 < length queue → 0 < length (fronts [] queue)
+unfolding fronts
+fronts-some [] some′ = some′
+fronts-some (m ∷ queue) some′ = omega arith
+
+pub row-lawful : (queue : List Message) → length queue ≤ 128 → Lawful (row queue)
+row-lawful queue few = record {
+  drawn = fronts-drawn [] queue;
+  few = omega (arith, fronts-le [] queue);
+  lively = fronts-some queue;
+  quiet = end-quiet queue;
+  outside = λ s out. gate-outside s _ out;
+  shallow = end-shallow queue;
+}
+
+-- a post through an open gate
+pub enqueued : {L : Type 0} (queue : L → List Message) (g : Gate) (m : Message) (before after : L) → g ≡ Open → queue after ≡ queue before ++ (m ∷ []) → Enqueued queue g m before after (Ok tt)
+enqueued queue Open m before after is pushed = (refl, pushed)
+enqueued queue (Closed d) m before after is pushed = let z : _≡_ {A = ℕ} 0 1 = cc in absurd (omega arith)
+
+-- a message that waits is the first of its like
+first-same : (m : Message) (xs : List (Option Message)) → 0 < often m (entries xs) → first (same m) xs ≡ Some m
+unfolding often times
+first-same m xs some′ =
+    let found = first-found (same m) xs some′ in
+    found .1 ∙ ap Some (sym (same-is m (found .0) (first-passes (same m) xs (found .0) (found .1))))
+
+-- an end holds what its places hold, and changes as they do
+module _ {P L : Type 0} (inner : P → List Message) (outer : L → List Message) where
+  pub enqueued-through : (g : Gate) (m : Message) (p p′ : P) (l l′ : L) (r : Result (Unit {0}) GateClosed) → outer l ≡ inner p → outer l′ ≡ inner p′ → (p′ ≡ p → l′ ≡ l) → Enqueued inner g m p p′ r → Enqueued outer g m l l′ r
+  enqueued-through Open m p p′ l l′ r before after whole done = (done .0, rw (before, after) (done .1))
+  enqueued-through (Closed d) m p p′ l l′ r before after whole done = (done .0, whole (done .1))
+
+module _ {L : Type 0} (queue : L → List Message) where
+  pub dequeued-end : (o : Option Message) (m : Message) (l l′ : L) (xs : List (Option Message)) (r : Option Message) → o ≡ Some m → 0 < often m (entries xs) → queue l ≡ entries xs → r ≡ first (same m) xs → queue l′ ≡ without (same m) (entries xs) → Dequeued queue o l l′ r
+  dequeued-end None m l l′ xs r is some′ before value after = let z : _≡_ {A = ℕ} 0 1 = cc in absurd (omega arith)
+  dequeued-end (Some n) m l l′ xs r is some′ before value after =
+      let one : m ≡ n = cc in
+      (value ∙ first-same m xs some′ ∙ ap Some one, rw (before, ← one) after)
+
+  -- what keeps the order of posting does what the link's meaning asks
+  module _ (meaning : L → Meaning) (bag : (l : L) → meaning l .bag ≡ queue l) where
+    pub posted-enqueued : (g : Gate) (m : Message) (l l′ : L) (r : Result (Unit {0}) GateClosed) → Enqueued queue g m l l′ r → Posted meaning g m l l′ r
+    posted-enqueued Open m l l′ r done =
+        (done .0, λ x. ap (often x) (bag l′ ∙ done .1) ∙ often-push x m (queue l) ∙ ap (λ ms. often x (m ∷ ms)) (sym (bag l)))
+    posted-enqueued (Closed d) m l l′ r done = done
+
+    pub taken-dequeued : (o : Option Message) (l l′ : L) (r : Option Message) → ((m : Message) → o ≡ Some m → 0 < often m (queue l)) → Dequeued queue o l l′ r → Taken meaning o l l′ r
+    taken-dequeued None l l′ r waits done = done
+    taken-dequeued (Some m) l l′ r waits done =
+        (done .0, λ x. ap (often x) (bag l) ∙ often-without x m (queue l) (waits m refl) ∙ ap (λ ms. often x (m ∷ ms)) (sym (done .1) ∙ sym (bag l′)))

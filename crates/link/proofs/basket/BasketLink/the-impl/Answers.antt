@@ -1,5 +1,0 @@
-use Rattle.link.proofs.Ends.{basket-lawful, entries-few}
-use Rattle.link.proofs.basket.BasketLink.the-impl.Needs as need
-
-pub lawful-law : need.lawful-law
-lawful-law l = basket-lawful _ (entries-few _ (l .places .sized))

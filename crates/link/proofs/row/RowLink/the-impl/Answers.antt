@@ -1,5 +1,0 @@
-use Rattle.link.proofs.Ends.{entries-few, row-lawful}
-use Rattle.link.proofs.row.RowLink.the-impl.Needs as need
-
-pub lawful-law : need.lawful-law
-lawful-law l = row-lawful _ (entries-few _ (l .places .sized))
