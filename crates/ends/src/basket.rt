@@ -2,15 +2,15 @@
 ghost use mathlib.Core.List.{[]};
 ghost use mathlib.Core.Path.{_≡_};
 ghost use Rattle.ends.specs.Queues.{basket-meaning, contents};
-use link::gate::Gate;
-use link::gate::GateClosed;
-use link::interface::Link;
 use crate::keys::ByKind;
 use crate::keys::BySender;
 use crate::keys::KindNumber;
 use crate::keys::Sender;
-use link::message::Message;
 use crate::places::Places;
+use link::gate::Gate;
+use link::gate::GateClosed;
+use link::interface::Link;
+use link::message::Message;
 
 #[derive(Drop)]
 pub struct Basket {

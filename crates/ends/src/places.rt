@@ -11,12 +11,12 @@ ghost use Rattle.std.specs.shelf.Maps.{nth};
 ghost use Rattle.slots.specs.Entries.{Packed, entries, first, without};
 ghost use Rattle.ends.specs.Ends.{Enqueued, end-gate};
 ghost use Rattle.link.specs.Messages.{same};
-use link::gate::Gate;
-use link::gate::GateClosed;
 use crate::keys::ByAll;
 use crate::keys::ByNothing;
 use crate::keys::Every;
 use crate::keys::Exactly;
+use link::gate::Gate;
+use link::gate::GateClosed;
 use link::message::Message;
 use slots::Matches;
 

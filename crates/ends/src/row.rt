@@ -10,17 +10,17 @@ ghost use Rattle.slots.specs.Entries.{entries};
 ghost use Rattle.ends.specs.Ends.{Dequeued, Enqueued, fronts};
 ghost use Rattle.link.specs.Meaning.{Posted, Taken};
 ghost use Rattle.ends.specs.Queues.{queue, row-meaning};
-use link::gate::Gate;
-use link::gate::GateClosed;
-use link::interface::Link;
 use crate::keys::ByKind;
 use crate::keys::BySender;
 use crate::keys::ByWay;
 use crate::keys::KindNumber;
 use crate::keys::Sender;
 use crate::keys::Way;
-use link::message::Message;
 use crate::places::Places;
+use link::gate::Gate;
+use link::gate::GateClosed;
+use link::interface::Link;
+use link::message::Message;
 
 #[derive(Drop)]
 pub struct Row {

@@ -123,5 +123,5 @@ sumBy-same-bag f (x ∷ xs) ys alike′ =
     let here : often x (x ∷ xs) ≡ 1 + often x xs = often-cons x x xs ∙ ap (λ b. cond b 1 0 + often x xs) (same-self x) in
     let there : 0 < often x ys = omega (arith, alike′ x) in
     let rest : SameBag xs (without (same x) ys) =
-          λ m. omega (arith, alike′ m, often-cons m x xs, often-without m x ys there, often-cons m x (without (same x) ys)) in
+    λ m. omega (arith, alike′ m, often-cons m x xs, often-without m x ys there, often-cons m x (without (same x) ys)) in
     sumBy-cons f x xs ∙ ap (λ n. f x + n) (sumBy-same-bag f xs (without (same x) ys) rest) ∙ sym (sumBy-without f x ys there)
