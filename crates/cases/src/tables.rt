@@ -32,7 +32,12 @@ fn a_full_table_refuses_and_stays() -> Result<(), Fail> {
 
 #[test]
 fn a_strike_closes_the_gap() -> Result<(), Fail> {
-    let mut table = [Some(noted(1, 10)), Some(noted(2, 11)), Some(noted(2, 12)), None];
+    let mut table = [
+        Some(noted(1, 10)),
+        Some(noted(2, 11)),
+        Some(noted(2, 12)),
+        None,
+    ];
     check_eq(slots::strike(&mut table, &2), Some(noted(2, 11)))?;
     check_eq(table, [Some(noted(1, 10)), Some(noted(2, 12)), None, None])?;
     check_eq(slots::strike(&mut table, &3), None)?;

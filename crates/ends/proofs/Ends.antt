@@ -1,9 +1,9 @@
 -- The links that stand alone: what their 128 places hold, and the laws of their meanings.
-use Prim.Native.Nat.{ℕ, zero, suc, _+_, _≤_, _<_}
+use Prim.Native.Nat.{ℕ, suc, _+_, _≤_, _<_}
 use native.Mathlib.Omega.{arith}
 use lib.Dec.{eqb, ltb}
 use lib.ListN.{length}
-use mathlib.Core.Bool.{Bool, true, false, cond}
+use mathlib.Core.Bool.{Bool}
 use mathlib.Core.List.{List, [], _∷_, _++_}
 use mathlib.Core.Logic.{⊎-elim}
 use mathlib.Core.Path.{_≡_, refl, ap, sym, _∙_}
@@ -11,12 +11,12 @@ use Rattle.std.proofs.shelf.Tests.{cases-bool, cond-both, cond-false, cond-true
 use Rattle.std.specs.declared.option.Option.{Option}
 use Rattle.std.specs.declared.option.Option.the-variants.{None, Some}
 use Rattle.std.specs.declared.result.Result.{Result}
-use Rattle.std.specs.declared.result.Result.the-variants.{Ok, Err}
+use Rattle.std.specs.declared.result.Result.the-variants.{Ok}
 use Rattle.slots.specs.Entries.{entries, first, times, without}
 use Rattle.slots.proofs.Counts.{entries-le, times-le}
 use Rattle.slots.proofs.Laws.{first-found, first-passes}
-use Rattle.ends.specs.Ends.{basket, crowded, Dequeued, end-gate, Enqueued, fronts, row}
-use Rattle.link.specs.Gates.{gate-of, passed}
+use Rattle.ends.specs.Ends.{basket, stands-behind, Dequeued, end-gate, Enqueued, fronts, row}
+use Rattle.link.specs.Gates.{passed}
 use Rattle.link.specs.Meaning.{Lawful, Meaning, Posted, Taken}
 use Rattle.link.specs.Messages.{often, same}
 use Rattle.link.specs.declared.gate.Gate.{Gate}
@@ -73,7 +73,7 @@ fronts-drawn older [] x = omega arith
 fronts-drawn older (m ∷ queue) x =
     let rest = fronts-drawn (older ++ (m ∷ [])) queue x in
     let more = fronts (older ++ (m ∷ [])) queue in
-    cond-both (crowded m older) more (m ∷ more) (λ ms. often x ms ≤ often x (m ∷ queue))
+    cond-both (stands-behind m older) more (m ∷ more) (λ ms. often x ms ≤ often x (m ∷ queue))
     (λ _. omega (arith, often-cons x m queue))
     (λ _. omega (arith, often-cons x m queue, often-cons x m more))
 
@@ -83,7 +83,7 @@ fronts-le older [] = omega arith
 fronts-le older (m ∷ queue) =
     let rest = fronts-le (older ++ (m ∷ [])) queue in
     let more = fronts (older ++ (m ∷ [])) queue in
-    cond-both (crowded m older) more (m ∷ more) (λ ms. length ms ≤ suc (length queue)) (λ _. omega arith) (λ _. omega arith)
+    cond-both (stands-behind m older) more (m ∷ more) (λ ms. length ms ≤ suc (length queue)) (λ _. omega arith) (λ _. omega arith)
 
 -- the oldest message of all is at the front
 pub fronts-some : (queue : List Message) → 0 < length queue → 0 < length (fronts [] queue)

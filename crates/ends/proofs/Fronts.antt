@@ -1,9 +1,7 @@
 -- The fronts of a row, slot by slot.
 use Prim.Native.Nat.{ℕ, _+_, _≤_, _<_}
-use native.Mathlib.Omega.{arith}
-use lib.Dec.{ltb}
 use lib.ListN.{drop, getD, length, take}
-use mathlib.Core.Bool.{Bool, true, false, cond}
+use mathlib.Core.Bool.{true, false}
 use mathlib.Core.List.{List, [], _∷_, _++_}
 use mathlib.Core.Path.{_≡_, refl, ap, ap₂, sym, _∙_}
 use Rattle.std.proofs.shelf.Lists.{append-nil, drop-all}
@@ -13,7 +11,7 @@ use Rattle.std.specs.declared.option.Option.{Option}
 use Rattle.std.specs.declared.option.Option.the-variants.{None, Some}
 use Rattle.slots.specs.Entries.{entries, times}
 use Rattle.slots.proofs.Counts.{entries-drop-more, entries-take-more}
-use Rattle.ends.specs.Ends.{crowded, fronts}
+use Rattle.ends.specs.Ends.{stands-behind, fronts}
 use Rattle.link.specs.Messages.{between}
 use Rattle.link.specs.declared.message.Message.{Message}
 
@@ -29,11 +27,11 @@ pub fronts-end : (xs : List (Option Message)) (i : ℕ) → length xs ≤ i → 
 unfolding entries fronts
 fronts-end xs i past = ap (λ ys. fronts (entries (take i xs)) (entries ys)) (drop-all i xs past)
 
-fronts-yes : (m : Message) (older queue : List Message) → crowded m older ≡ true → fronts older (m ∷ queue) ≡ fronts (older ++ (m ∷ [])) queue
+fronts-yes : (m : Message) (older queue : List Message) → stands-behind m older ≡ true → fronts older (m ∷ queue) ≡ fronts (older ++ (m ∷ [])) queue
 unfolding fronts
 fronts-yes m older queue is = cond-true _ _ _ is
 
-fronts-no : (m : Message) (older queue : List Message) → crowded m older ≡ false → fronts older (m ∷ queue) ≡ m ∷ fronts (older ++ (m ∷ [])) queue
+fronts-no : (m : Message) (older queue : List Message) → stands-behind m older ≡ false → fronts older (m ∷ queue) ≡ m ∷ fronts (older ++ (m ∷ [])) queue
 unfolding fronts
 fronts-no m older queue is = cond-false _ _ _ is
 
@@ -57,9 +55,9 @@ module _ (xs : List (Option Message)) (i : ℕ) (within : i < length xs) where
         (sym (entries-take-more xs i None within ∙ ap (λ o. entries (take i xs) ++ listOf o) is))
 
     -- a message behind an older one of its sender and receiver is not offered
-    pub fronts-crowded : 0 < times (between (m .sender) (m .receiver)) (take i xs) → fronts-from xs i ≡ fronts-from xs (i + 1)
+    pub fronts-behind : 0 < times (between (m .sender) (m .receiver)) (take i xs) → fronts-from xs i ≡ fronts-from xs (i + 1)
     unfolding times
-    fronts-crowded some′ = here ∙ fronts-yes m (entries (take i xs)) (entries (drop (i + 1) xs)) (lt-ltb _ _ some′) ∙ next
+    fronts-behind some′ = here ∙ fronts-yes m (entries (take i xs)) (entries (drop (i + 1) xs)) (lt-ltb _ _ some′) ∙ next
 
     -- any other is
     pub fronts-free : times (between (m .sender) (m .receiver)) (take i xs) ≤ 0 → fronts-from xs i ≡ m ∷ fronts-from xs (i + 1)

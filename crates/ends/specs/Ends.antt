@@ -28,14 +28,14 @@ abbrev pub basket : List Message → Meaning
 basket bag = record { bag = bag; offers = bag; gate = end-gate bag }
 
 -- whether one of these messages has the same sender and receiver
-abbrev pub crowded : Message → List Message → Bool
-crowded m older = ltb 0 (countBy (between (m .sender) (m .receiver)) older)
+abbrev pub stands-behind : Message → List Message → Bool
+stands-behind m older = ltb 0 (countBy (between (m .sender) (m .receiver)) older)
 
 -- of the messages `queue`, oldest first, those that have no older one of the same sender and receiver,
 -- neither there nor in `older`, which came before
 unfoldable pub fronts : List Message → List Message → List Message
 fronts older [] = []
-fronts older (m ∷ queue) = cond (crowded m older) (fronts (older ++ (m ∷ [])) queue) (m ∷ fronts (older ++ (m ∷ [])) queue)
+fronts older (m ∷ queue) = cond (stands-behind m older) (fronts (older ++ (m ∷ [])) queue) (m ∷ fronts (older ++ (m ∷ [])) queue)
 
 -- the row, by its messages in the order in which they were posted
 abbrev pub row : List Message → Meaning

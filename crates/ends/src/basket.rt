@@ -49,7 +49,7 @@ pub impl Link for Basket as BasketLink {
     }
 
     fn offers(&self) -> u16 {
-        self.places.waiting()
+        self.waiting()
     }
 
     fn waiting(&self) -> u16 {

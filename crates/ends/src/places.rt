@@ -1,11 +1,8 @@
 // The 128 places of a link that stands alone, in which messages wait in the order of posting.
 ghost use lib.ListN.{length};
-ghost use mathlib.Core.Bool.{cond, true};
-ghost use mathlib.Core.List.{[], _∷_, _++_};
+ghost use mathlib.Core.List.{[]};
 ghost use mathlib.Core.Path.{_≡_};
-ghost use Prim.Native.Nat.{ℕ, _≤_};
-ghost use Rattle.std.specs.Results.{isOk};
-ghost use Rattle.std.specs.declared.result.Result.the-variants.{Ok, Err};
+ghost use Prim.Native.Nat.{_≤_};
 ghost use Rattle.std.specs.shelf.Lists.{countBy};
 ghost use Rattle.std.specs.shelf.Maps.{nth};
 ghost use Rattle.slots.specs.Entries.{Packed, entries, first, without};
@@ -21,11 +18,12 @@ use link::message::Message;
 use slots::Matches;
 
 // How many messages fit.
-pub const PLACES: usize = 128;
+const PLACES: usize = 128;
 
+// Places of which the first are taken, in the order of posting, and the rest are empty.
 #[derive(Drop)]
 pub struct Places {
-    pub slots: [Option<Message>; 128],
+    pub slots: [Option<Message>; PLACES],
     ghost sized: { length slots ≡ 128 },
     ghost packed: { Packed slots },
 }
@@ -35,7 +33,9 @@ impl Places {
     pub fn new() -> Places
         ensures { λ r. ⌜ entries (r .slots) ≡ [] ⌝ }
     {
-        Places { slots: [None; 128] }
+        Places {
+            slots: [None; PLACES],
+        }
     }
 
     // How many messages match `key`.
@@ -60,7 +60,7 @@ impl Places {
     pub fn at(&self, place: u32) -> Option<Message>
         ensures { λ r. ⌜ r ≡ nth (entries (now (self .entry) .slots)) place ⌝ }
     {
-        if place < 128 {
+        if place < PLACES as u32 {
             self.slots[place as usize]
         } else {
             None
@@ -71,7 +71,7 @@ impl Places {
     pub fn gate(&self, station: u8) -> Gate
         ensures { λ r. ⌜ r ≡ end-gate (entries (now (self .entry) .slots)) station ⌝ }
     {
-        if station > 15 || self.waiting() == 128 {
+        if station > 15 || self.waiting() == PLACES as u16 {
             Gate::Closed(0)
         } else {
             Gate::Open

@@ -1,9 +1,9 @@
 // The row: a link of 128 places that keeps the order of posting and offers each message that has no
 // older one of the same sender and receiver.
 ghost use lib.ListN.{drop, length, take};
-ghost use mathlib.Core.List.{[], _∷_, _++_};
+ghost use mathlib.Core.List.{[], _++_};
 ghost use mathlib.Core.Path.{_≡_};
-ghost use Prim.Native.Nat.{ℕ, _+_, _<_, _≤_};
+ghost use Prim.Native.Nat.{_+_, _<_};
 ghost use Rattle.std.specs.Vec.{listOf};
 ghost use Rattle.std.specs.shelf.Maps.{nth};
 ghost use Rattle.slots.specs.Entries.{entries};

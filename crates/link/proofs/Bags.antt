@@ -1,5 +1,5 @@
 -- Messages that are the same, and how often one is in a list.
-use Prim.Native.Nat.{ℕ, zero, suc, _+_, _≤_, _<_}
+use Prim.Native.Nat.{ℕ, zero, suc, _+_, _<_}
 use native.Mathlib.Omega.{arith}
 use lib.ListN.{length}
 use mathlib.Core.Bool.{Bool, true, false, cond}
@@ -10,8 +10,7 @@ use Rattle.std.specs.shelf.Lists.{countBy, sumBy}
 use Rattle.std.proofs.shelf.Sums.{sumBy-cons, sumBy-push}
 use Rattle.std.proofs.shelf.Tests.{and-from, and-parts, cases-bool, cond-false, cond-true, eq-eqb, eqb-true}
 use Rattle.std.specs.shelf.Maps.{nth}
-use Rattle.std.specs.declared.option.Option.{Option}
-use Rattle.std.specs.declared.option.Option.the-variants.{None, Some}
+use Rattle.std.specs.declared.option.Option.the-variants.{Some}
 use Rattle.slots.specs.Entries.{without}
 use Rattle.link.specs.Messages.{often, same, SameBag}
 use Rattle.link.specs.declared.message.Message.{Message}

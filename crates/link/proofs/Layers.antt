@@ -3,10 +3,7 @@
 use Prim.Native.Nat.{ℕ, _+_, _≤_, _<_, min}
 use native.Mathlib.Omega.{arith}
 use lib.Dec.{ltb}
-use lib.ListN.{length}
-use mathlib.Core.Bool.{cond}
-use mathlib.Core.List.{_∷_}
-use mathlib.Core.Path.{_≡_, refl, ap, sym, _∙_}
+use mathlib.Core.Path.{_≡_, ap, _∙_}
 use Rattle.std.specs.shelf.Lists.{countBy}
 use Rattle.std.proofs.shelf.Sums.{countBy-le-length}
 use Rattle.std.proofs.shelf.Tests.{cond-both, cond-false, cond-true, le-ltb, lt-ltb}

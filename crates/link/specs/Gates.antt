@@ -1,7 +1,7 @@
 -- Gates and their depths.
 use Prim.Native.Nat.{ℕ, _+_, min}
 use lib.Dec.{ltb}
-use mathlib.Core.Bool.{Bool, cond}
+use mathlib.Core.Bool.{cond}
 use Rattle.std.specs.declared.result.Result.{Result}
 use Rattle.std.specs.declared.result.Result.the-variants.{Ok, Err}
 use Rattle.link.specs.declared.gate.Gate.{Gate}

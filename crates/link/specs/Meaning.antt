@@ -1,13 +1,12 @@
 -- What a link means, whatever it is made of.
 use Prim.Native.Nat.{ℕ, _≤_, _<_}
-use mathlib.Core.List.{List, [], _∷_}
+use mathlib.Core.List.{List, _∷_}
 use mathlib.Core.Path.{_≡_}
 use lib.ListN.{length}
 use Rattle.std.specs.declared.option.Option.{Option}
 use Rattle.std.specs.declared.option.Option.the-variants.{None, Some}
 use Rattle.std.specs.declared.result.Result.{Result}
 use Rattle.std.specs.declared.result.Result.the-variants.{Ok, Err}
-use Rattle.std.specs.shelf.Maps.{nth}
 use Rattle.link.specs.Messages.{often, SameBag}
 use Rattle.link.specs.declared.gate.Gate.{Gate}
 use Rattle.link.specs.declared.gate.Gate.the-variants.{Open, Closed}

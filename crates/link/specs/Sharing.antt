@@ -7,6 +7,7 @@ use Rattle.link.specs.Gates.{deepened, gate-of}
 use Rattle.link.specs.Meaning.{Meaning}
 use Rattle.link.specs.Messages.{sent-by}
 use Rattle.link.specs.declared.gate.Gate.the-variants.{Closed}
+use Rattle.link.specs.declared.share.Share.{Share}
 
 -- the limit in force: 0 counts as 1, and more than 128 as 128
 abbrev pub in-force : ℕ → ℕ
@@ -20,3 +21,7 @@ shared limit m = record {
   offers = m .offers;
   gate = λ s. gate-of s (cond (ltb (countBy (sent-by s) (m .bag)) limit) (deepened (m .gate s)) (Closed 0));
 }
+
+-- what a share means, by what the link below it means
+abbrev pub share-meaning : {L : Type 0} → (L → Meaning) → Share L → Meaning
+share-meaning below s = shared (in-force (s .limit)) (below (s .below))

@@ -2,7 +2,7 @@
 ghost use lib.ListN.{length};
 ghost use mathlib.Core.List.{[]};
 ghost use mathlib.Core.Path.{_≡_};
-ghost use Prim.Native.Nat.{ℕ, min};
+ghost use Prim.Native.Nat.{min};
 ghost use Rattle.std.specs.shelf.Lists.{countBy};
 ghost use Rattle.std.specs.shelf.Maps.{nth};
 ghost use Rattle.link.specs.Meaning.{Lawful, Meaning, Posted, Taken};

@@ -1,6 +1,5 @@
 // Messages, their kinds, and the keys by which they are told.
 ghost use mathlib.Core.Path.{_≡_};
-ghost use Prim.Native.Nat.{ℕ};
 ghost use Rattle.std.specs.Options.{Cases};
 ghost use Rattle.link.specs.Kinds.{carried, kind-number};
 

@@ -1,6 +1,9 @@
 // The share: a layer over any link that lets each station have only so many messages waiting.
+ghost use mathlib.Core.List.{[]};
 ghost use mathlib.Core.Path.{_≡_};
-ghost use Rattle.link.specs.Sharing.{in-force, shared};
+ghost use Rattle.std.specs.shelf.Maps.{nth};
+ghost use Rattle.link.specs.Meaning.{Posted, Taken};
+ghost use Rattle.link.specs.Sharing.{in-force, share-meaning};
 use crate::gate::Gate;
 use crate::gate::GateClosed;
 use crate::interface::Link;
@@ -31,18 +34,27 @@ impl<L: Link> Share<L> {
 }
 
 pub impl<L: Link> Link for Share<L> as ShareLink {
-    ghost meaning = { λ s. shared (in-force (s .limit)) (L·Link .meaning (s .below)) };
+    ghost meaning = { share-meaning (L·Link .meaning) };
 
-    fn clear(&mut self) {
+    fn clear(&mut self)
+        ensures { λ _. ⌜ share-meaning (L·Link .meaning) (now (self .exit)) .bag ≡ [] ⌝ }
+        ensures { λ _. ⌜ now (self .exit) .limit ≡ now (self .entry) .limit ⌝ }
+    {
         self.below.clear();
     }
 
-    fn post(&mut self, message: Message) -> Result<(), GateClosed> {
+    fn post(&mut self, message: Message) -> Result<(), GateClosed>
+        ensures { λ r. ⌜ Posted (share-meaning (L·Link .meaning)) (share-meaning (L·Link .meaning) (now (self .entry)) .gate (message .sender)) message (now (self .entry)) (now (self .exit)) r ⌝ }
+        ensures { λ _. ⌜ now (self .exit) .limit ≡ now (self .entry) .limit ⌝ }
+    {
         self.gate(message.sender).pass()?;
         self.below.post(message)
     }
 
-    fn take(&mut self, place: u32) -> Option<Message> {
+    fn take(&mut self, place: u32) -> Option<Message>
+        ensures { λ r. ⌜ Taken (share-meaning (L·Link .meaning)) (nth (share-meaning (L·Link .meaning) (now (self .entry)) .offers) place) (now (self .entry)) (now (self .exit)) r ⌝ }
+        ensures { λ _. ⌜ now (self .exit) .limit ≡ now (self .entry) .limit ⌝ }
+    {
         self.below.take(place)
     }
 

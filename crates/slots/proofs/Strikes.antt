@@ -1,18 +1,18 @@
 -- What striking does to a table, place by place.
-use Prim.Native.Nat.{ℕ, zero, suc, _+_, _-_, _≤_, _<_}
+use Prim.Native.Nat.{ℕ, zero, suc, _+_, _-_, _<_}
 use native.Mathlib.Numerals.{add-one}
 use native.Mathlib.Omega.{arith}
 use native.Mathlib.Nat.{not-suc-le-zero, le-of-suc-le-suc}
 use borrow.Rule.Slice.PartMut.{putMid}
-use mathlib.Core.Bool.{Bool, true, false, cond}
+use mathlib.Core.Bool.{Bool}
 use mathlib.Core.List.{List, [], _∷_, _++_}
 use mathlib.Core.Path.{_≡_, refl, ap, sym, _∙_}
 use lib.ListN.{length, take, drop, getD, set}
-use Rattle.std.proofs.shelf.Lists.{append-nil, drop-all, drop-set, length-drop, length-set, take-rest, take-set}
+use Rattle.std.proofs.shelf.Lists.{append-nil, drop-all, drop-set, length-drop, take-rest, take-set}
 use Rattle.std.proofs.shelf.Tests.{cond-true, cond-false, false≢true}
 use Rattle.std.specs.declared.option.Option.{Option}
 use Rattle.std.specs.declared.option.Option.the-variants.{None, Some}
-use Rattle.slots.specs.Entries.{entries, first, Found, struck, times}
+use Rattle.slots.specs.Entries.{first, Found, struck, times}
 use Rattle.slots.proofs.Counts.{misses, times-none}
 
 module _ {E : Type 0} where

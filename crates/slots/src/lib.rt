@@ -1,6 +1,6 @@
 // Tables of entries over lent slices: one text for placing an entry, striking one that matches a key
 // and counting those that match. A place is `None` where it is empty, and an empty place matches nothing.
-ghost use Prim.Native.Nat.{ℕ, _<_};
+ghost use Prim.Native.Nat.{_<_};
 ghost use lib.Dec.{ltb};
 ghost use lib.ListN.{length};
 ghost use mathlib.Core.Bool.{Bool};

@@ -1,5 +1,5 @@
 use native.Mathlib.Omega.{arith}
-use mathlib.Core.Path.{ap, refl, sym, _∙_}
+use mathlib.Core.Path.{ap, refl, _∙_}
 use Rattle.std.proofs.shelf.Lists.{take-all}
 use Rattle.slots.specs.Entries.{entries, times}
 use Rattle.slots.proofs.Counts.{times-more}

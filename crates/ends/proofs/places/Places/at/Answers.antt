@@ -8,13 +8,13 @@ use Rattle.slots.proofs.Laws.{nth-packed}
 use Rattle.ends.proofs.Ends.{entries-few}
 use Rattle.ends.proofs.places.Places.at.Needs as need
 
-pub returns-then-place-lt128 : need.returns-then-place-lt128
-returns-then-place-lt128 c =
+pub returns-then-place : need.returns-then-place
+returns-then-place c =
     let within : c .args .place < length (c .args .self .now .slots) = omega arith in
     sym (nth-packed _ _ _ (c .args .self .now .packed) within)
 
-pub returns-else-place-lt128 : need.returns-else-place-lt128
-returns-else-place-lt128 c =
+pub returns-else-place : need.returns-else-place
+returns-else-place c =
     let few = entries-few (c .args .self .now .slots) (c .args .self .now .sized) in
     let past : length (entries (c .args .self .now .slots)) ≤ c .args .place = omega arith in
     sym (nth-past _ _ past)
