@@ -94,6 +94,22 @@ fn a_row_keeps_the_order_of_posting() -> Result<(), Fail> {
 }
 
 #[test]
+fn the_same_message_can_wait_twice() -> Result<(), Fail> {
+    let mut basket = Basket::new();
+    let mut row = Row::new();
+    for _ in 0..2 {
+        check_eq(basket.post(copy(0, 1, 5)), Ok(()))?;
+        check_eq(row.post(copy(0, 1, 5)), Ok(()))?;
+    }
+    check_eq(basket.offers(), 2)?;
+    check_eq(row.offers(), 1)?;
+    check_eq(basket.take(1), Some(copy(0, 1, 5)))?;
+    check_eq(row.take(0), Some(copy(0, 1, 5)))?;
+    check_eq(basket.waiting(), 1)?;
+    check_eq(row.offer(0), Some(copy(0, 1, 5)))
+}
+
+#[test]
 fn station_16_has_no_gate() -> Result<(), Fail> {
     let mut row = Row::new();
     let mut basket = Basket::new();

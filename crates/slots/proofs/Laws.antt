@@ -3,6 +3,7 @@
 use Prim.Native.Nat.{ℕ, zero, suc, _+_, _<_}
 use native.Mathlib.Numerals.{add-one}
 use native.Mathlib.Omega.{arith}
+use lib.Dec.{ltb}
 use mathlib.Core.Bool.{Bool, true, false, cond}
 use mathlib.Core.List.{List, [], _∷_, _++_}
 use mathlib.Core.Logic.{⊎-elim}
@@ -10,7 +11,7 @@ use mathlib.Core.Path.{_≡_, refl, ap, sym, _∙_}
 use native.Mathlib.Nat.{le-of-suc-le-suc}
 use lib.ListN.{getD, length}
 use Rattle.std.proofs.shelf.Lists.{append-nil, length-push, nil-from-length}
-use Rattle.std.proofs.shelf.Tests.{cases-bool, cond-both, cond-false, cond-true}
+use Rattle.std.proofs.shelf.Tests.{cases-bool, cond-both, cond-false, cond-true, le-ltb, lt-ltb}
 use Rattle.std.specs.Options.{isSome}
 use Rattle.std.specs.shelf.Maps.{nth}
 use Rattle.std.specs.shelf.Lists.{leading}
@@ -27,10 +28,10 @@ module _ {E : Type 0} where
   length-placed e (None ∷ xs) = refl
   length-placed e (Some x ∷ xs) = ap suc (length-placed e xs)
 
-  pub times-placed : (q : E → Bool) (e : E) (xs : List (Option E)) → length (entries xs) < length xs → times q (placed e xs) ≡ times q xs + cond (q e) 1 0
+  pub times-placed : (q : E → Bool) (e : E) (xs : List (Option E)) → length (entries xs) < length xs → times q (placed e xs) ≡ times q xs + times q (Some e ∷ [])
   unfolding placed entries
   times-placed q e [] room = absurd (omega arith)
-  times-placed q e (None ∷ xs) room = omega (arith, times-some q e xs, times-none q xs)
+  times-placed q e (None ∷ xs) room = omega (arith, times-some q e xs, times-none q xs, times-some q e [], times-le q [])
   times-placed q e (Some x ∷ xs) room =
       omega (arith, times-some q x (placed e xs), times-some q x xs, times-placed q e xs (omega arith))
 
@@ -94,20 +95,34 @@ module _ {E : Type 0} where
         let found = first-found xs (omega arith) in (found .0, first-no x xs no′ ∙ found .1))
         (cases-bool (p x))
 
-    -- the entry that goes is counted once less, and every other as before
-    pub times-struck : (q : E → Bool) (xs : List (Option E)) (y : E) → first p xs ≡ Some y → times q (struck p xs) + cond (q y) 1 0 ≡ times q xs
-    unfolding first struck
-    times-struck q [] y is = let z : _≡_ {A = ℕ} 0 1 = cc in absurd (omega arith)
-    times-struck q (None ∷ xs) y is =
-        omega (arith, times-none q (struck p xs), times-none q xs, times-struck q xs y is)
-    times-struck q (Some x ∷ xs) y is =
+    -- an entry is found exactly where a match is counted
+    pub first-test : (xs : List (Option E)) → isSome (first p xs) ≡ ltb 0 (times p xs)
+    unfolding first
+    first-test [] = sym (le-ltb 0 (times p []) (times-le p []))
+    first-test (None ∷ xs) = first-test xs ∙ ap (ltb 0) (sym (times-none p xs))
+    first-test (Some x ∷ xs) =
         ⊎-elim
         (λ yes′.
-        let same : x ≡ y = cc (sym (first-yes x xs yes′) ∙ is) in
-        rw (struck-yes x xs yes′, ← same) (omega (arith, times-append q xs (None ∷ []), times-none q [], times-le q [], times-some q x xs)))
+        let more : 0 < times p (Some x ∷ xs) = omega (arith, times-some p x xs ∙ ap (λ b. cond b 1 0 + times p xs) yes′) in
+        ap isSome (first-yes x xs yes′) ∙ sym (lt-ltb 0 (times p (Some x ∷ xs)) more))
         (λ no′.
-        let rest = times-struck q xs y (sym (first-no x xs no′) ∙ is) in
-        rw (struck-no x xs no′) (omega (arith, times-some q x (struck p xs), times-some q x xs)))
+        let less : times p (Some x ∷ xs) ≡ times p xs = times-some p x xs ∙ ap (λ b. cond b 1 0 + times p xs) no′ ∙ omega arith in
+        ap isSome (first-no x xs no′) ∙ first-test xs ∙ ap (ltb 0) (sym less))
+        (cases-bool (p x))
+
+    -- the entry that goes is counted once less, and every other as before
+    pub times-struck : (q : E → Bool) (xs : List (Option E)) → times q (struck p xs) + times q (first p xs ∷ []) ≡ times q xs
+    unfolding first struck
+    times-struck q [] = omega (arith, times-le q [], times-none q [])
+    times-struck q (None ∷ xs) = omega (arith, times-none q (struck p xs), times-none q xs, times-struck q xs)
+    times-struck q (Some x ∷ xs) =
+        ⊎-elim
+        (λ yes′.
+        rw (struck-yes x xs yes′, first-yes x xs yes′)
+        (omega (arith, times-append q xs (None ∷ []), times-none q [], times-le q [], times-some q x [], times-some q x xs)))
+        (λ no′.
+        let rest = times-struck q xs in
+        rw (struck-no x xs no′, first-no x xs no′) (omega (arith, times-some q x (struck p xs), times-some q x xs)))
         (cases-bool (p x))
 
     -- the other entries keep their order

@@ -1,12 +1,14 @@
 // Tables of entries over lent slices: one text for placing an entry, striking one that matches a key
 // and counting those that match. A place is `None` where it is empty, and an empty place matches nothing.
-ghost use Prim.Native.Nat.{_<_};
+ghost use Prim.Native.Nat.{_+_};
 ghost use lib.Dec.{ltb};
 ghost use lib.ListN.{length};
-ghost use mathlib.Core.Bool.{Bool};
+ghost use mathlib.Core.Bool.{Bool, cond};
+ghost use mathlib.Core.List.{[], _∷_};
 ghost use mathlib.Core.Path.{_≡_};
 ghost use Rattle.std.specs.Results.{isOk};
-ghost use Rattle.std.specs.Options.{Cases};
+ghost use Rattle.std.specs.Options.{Cases, isSome};
+ghost use Rattle.std.specs.declared.option.Option.the-variants.{Some};
 ghost use Rattle.slots.specs.Entries.{Found, entries, first, hit, placed, struck, times};
 
 // An entry that can be told by a key.
@@ -26,6 +28,7 @@ pub struct Full;
 pub fn place<E: Copy>(slots: &mut [Option<E>], entry: E) -> Result<(), Full>
     ensures after { λ _. ⌜ now (slots .exit) ≡ placed entry (now (slots .entry)) ⌝ }
     ensures test { λ r. ⌜ isOk r ≡ ltb (length (entries (now (slots .entry)))) (length (now (slots .entry))) ⌝ }
+    ensures counts { λ r. ⌜ ((q : E → Bool) → times q (now (slots .exit)) ≡ times q (now (slots .entry)) + cond (isOk r) (times q (Some entry ∷ [])) 0) ⌝ }
 {
     for i in 0..slots.len() {
         if slots[i].is_none() {
@@ -76,6 +79,8 @@ fn find<K, E: Matches<K>>(slots: &[Option<E>], key: &K) -> Option<usize>
 pub fn strike<K, E: Matches<K> + Copy>(slots: &mut [Option<E>], key: &K) -> Option<E>
     ensures value { λ r. ⌜ r ≡ first (E·Matches .fits (now (key .entry))) (now (slots .entry)) ⌝ }
     ensures after { λ _. ⌜ now (slots .exit) ≡ struck (E·Matches .fits (now (key .entry))) (now (slots .entry)) ⌝ }
+    ensures finds { λ r. ⌜ isSome r ≡ ltb 0 (times (E·Matches .fits (now (key .entry))) (now (slots .entry))) ⌝ }
+    ensures counts { λ r. ⌜ ((q : E → Bool) → times q (now (slots .exit)) + times q (r ∷ []) ≡ times q (now (slots .entry))) ⌝ }
 {
     let at = find(slots, key)?;
     let gone = slots[at];

@@ -4,7 +4,8 @@ use mathlib.Core.Path.{ap, refl, sym, _∙_}
 use lib.ListN.{length}
 use Rattle.std.proofs.shelf.Lists.{take-all}
 use Rattle.std.proofs.shelf.Tests.{lt-ltb, le-ltb}
-use Rattle.slots.specs.Entries.{entries, placed}
+use Rattle.slots.specs.Entries.{entries, placed, times}
+use Rattle.slots.proofs.Laws.{times-placed}
 use Rattle.slots.proofs.Places.{placed-at, room-at, taken-more, placed-full}
 use Rattle.slots.proofs.place.Needs as need
 
@@ -13,9 +14,12 @@ returns-then-is-none g c =
     let same = c .loop-i .inv .1 in
     let within : c .loop-i .i < length (c .loop-i .slots) = omega arith in
     let empty = c .if-is-none .ensures tt in
+    let room = rw same at (room-at _ _ _ within empty) in
+    let after = placed-at _ _ _ _ within (c .loop-i .inv .0) empty ∙ ap (placed (c .args .entry)) same in
     record {
-      after = placed-at _ _ _ _ within (c .loop-i .inv .0) empty ∙ ap (placed (c .args .entry)) same;
-      test = sym (lt-ltb _ _ (rw same at (room-at _ _ _ within empty)));
+      after = after;
+      test = sym (lt-ltb _ _ room);
+      counts = λ q. ap (times q) after ∙ times-placed q (c .args .entry) (c .args .slots .now) room;
     }
 
 pub loop-i-again : need.loop-i-again
@@ -30,6 +34,7 @@ returns g c =
     record {
       after = same ∙ sym (placed-full (c .args .entry) _ full);
       test = sym (le-ltb _ _ full);
+      counts = λ q. ap (times q) same ∙ omega arith;
     }
 
 pub loop-i-holds : need.loop-i-holds
