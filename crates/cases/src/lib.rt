@@ -3,5 +3,4 @@
 mod links;
 #[cfg(test)]
 mod piles;
-#[cfg(test)]
 mod tables;

@@ -3,11 +3,12 @@ use Prim.Native.Nat.{ℕ, suc, _+_, _≤_, _<_}
 use native.Mathlib.Omega.{arith}
 use lib.Dec.{eqb, ltb}
 use lib.ListN.{length}
-use mathlib.Core.Bool.{Bool}
+use mathlib.Core.Bool.{Bool, false}
 use mathlib.Core.List.{List, [], _∷_, _++_}
 use mathlib.Core.Logic.{⊎-elim}
-use mathlib.Core.Path.{_≡_, refl, ap, sym, _∙_}
+use mathlib.Core.Path.{_≡_, refl, ap, ap₂, sym, _∙_}
 use Rattle.std.proofs.shelf.Tests.{cases-bool, cond-both, cond-false, cond-true, eqb-false, ne-eqb}
+use Rattle.std.specs.Results.{isOk}
 use Rattle.std.specs.declared.option.Option.{Option}
 use Rattle.std.specs.declared.option.Option.the-variants.{None, Some}
 use Rattle.std.specs.declared.result.Result.{Result}
@@ -15,9 +16,9 @@ use Rattle.std.specs.declared.result.Result.the-variants.{Ok}
 use Rattle.slots.specs.Entries.{entries, first, times, without}
 use Rattle.slots.proofs.Counts.{entries-le, times-le}
 use Rattle.slots.proofs.Laws.{first-found, first-passes}
-use Rattle.ends.specs.Ends.{basket, stands-behind, Dequeued, end-gate, Enqueued, fronts, row}
+use Rattle.ends.specs.Ends.{basket, end-gate, enqueued, fronts, row, stands-behind}
 use Rattle.link.specs.Gates.{passed}
-use Rattle.link.specs.Meaning.{Lawful, Meaning, Posted, Taken}
+use Rattle.link.specs.Meaning.{Lawful, Meaning, PostedBy, TakenBy}
 use Rattle.link.specs.Messages.{often, same}
 use Rattle.link.specs.declared.gate.Gate.{Gate}
 use Rattle.link.specs.declared.gate.Gate.the-variants.{Closed, Open}
@@ -101,39 +102,24 @@ row-lawful queue few = record {
   shallow = end-shallow queue;
 }
 
--- a post through an open gate
-pub enqueued : {L : Type 0} (queue : L → List Message) (g : Gate) (m : Message) (before after : L) → g ≡ Open → queue after ≡ queue before ++ (m ∷ []) → Enqueued queue g m before after (Ok tt)
-enqueued queue Open m before after is pushed = (refl, pushed)
-enqueued queue (Closed d) m before after is pushed = let z : _≡_ {A = ℕ} 0 1 = cc in absurd (omega arith)
-
 -- a message that waits is the first of its like
-first-same : (m : Message) (xs : List (Option Message)) → 0 < often m (entries xs) → first (same m) xs ≡ Some m
+pub first-same : (m : Message) (xs : List (Option Message)) → 0 < often m (entries xs) → first (same m) xs ≡ Some m
 unfolding often times
 first-same m xs some′ =
     let found = first-found (same m) xs some′ in
     found .1 ∙ ap Some (sym (same-is m (found .0) (first-passes (same m) xs (found .0) (found .1))))
 
--- an end holds what its places hold, and changes as they do
-module _ {P L : Type 0} (inner : P → List Message) (outer : L → List Message) where
-  pub enqueued-through : (g : Gate) (m : Message) (p p′ : P) (l l′ : L) (r : Result (Unit {0}) GateClosed) → outer l ≡ inner p → outer l′ ≡ inner p′ → (p′ ≡ p → l′ ≡ l) → Enqueued inner g m p p′ r → Enqueued outer g m l l′ r
-  enqueued-through Open m p p′ l l′ r before after whole done = (done .0, rw (before, after) (done .1))
-  enqueued-through (Closed d) m p p′ l l′ r before after whole done = (done .0, whole (done .1))
+-- what keeps the order of posting does what the link's meaning asks
+module _ {L : Type 0} (meaning : L → Meaning) (queue : L → List Message) (bag : (l : L) → meaning l .bag ≡ queue l) where
+  pub posted-end : (g : Gate) (m : Message) (l l′ : L) (r : Result (Unit {0}) GateClosed) → r ≡ passed g → queue l′ ≡ enqueued m r (queue l) → (isOk r ≡ false → l′ ≡ l) → PostedBy meaning g m l l′ r
+  posted-end Open m l l′ r answer order whole =
+      (answer, λ x. ap (often x) (bag l′ ∙ order ∙ ap (λ s. enqueued m s (queue l)) answer) ∙ often-push x m (queue l) ∙ ap (λ ms. often x (m ∷ ms)) (sym (bag l)))
+  posted-end (Closed d) m l l′ r answer order whole = (answer, whole (ap isOk answer))
 
-module _ {L : Type 0} (queue : L → List Message) where
-  pub dequeued-end : (o : Option Message) (m : Message) (l l′ : L) (xs : List (Option Message)) (r : Option Message) → o ≡ Some m → 0 < often m (entries xs) → queue l ≡ entries xs → r ≡ first (same m) xs → queue l′ ≡ without (same m) (entries xs) → Dequeued queue o l l′ r
-  dequeued-end None m l l′ xs r is some′ before value after = let z : _≡_ {A = ℕ} 0 1 = cc in absurd (omega arith)
-  dequeued-end (Some n) m l l′ xs r is some′ before value after =
-      let one : m ≡ n = cc in
-      (value ∙ first-same m xs some′ ∙ ap Some one, rw (before, ← one) after)
-
-  -- what keeps the order of posting does what the link's meaning asks
-  module _ (meaning : L → Meaning) (bag : (l : L) → meaning l .bag ≡ queue l) where
-    pub posted-enqueued : (g : Gate) (m : Message) (l l′ : L) (r : Result (Unit {0}) GateClosed) → Enqueued queue g m l l′ r → Posted meaning g m l l′ r
-    posted-enqueued Open m l l′ r done =
-        (done .0, λ x. ap (often x) (bag l′ ∙ done .1) ∙ often-push x m (queue l) ∙ ap (λ ms. often x (m ∷ ms)) (sym (bag l)))
-    posted-enqueued (Closed d) m l l′ r done = done
-
-    pub taken-dequeued : (o : Option Message) (l l′ : L) (r : Option Message) → ((m : Message) → o ≡ Some m → 0 < often m (queue l)) → Dequeued queue o l l′ r → Taken meaning o l l′ r
-    taken-dequeued None l l′ r waits done = done
-    taken-dequeued (Some m) l l′ r waits done =
-        (done .0, λ x. ap (often x) (bag l) ∙ often-without x m (queue l) (waits m refl) ∙ ap (λ ms. often x (m ∷ ms)) (sym (done .1) ∙ sym (bag l′)))
+  pub taken-end : (o : Option Message) (m : Message) (l l′ : L) (r : Option Message) → o ≡ Some m → r ≡ Some m → 0 < often m (queue l) → queue l′ ≡ without (same m) (queue l) → TakenBy meaning o l l′ r
+  taken-end None m l l′ r is answer waits order = let z : _≡_ {A = ℕ} 0 1 = cc in absurd (omega arith)
+  taken-end (Some n) m l l′ r is answer waits order =
+      (answer ∙ sym is, λ x. ap (often x) (bag l) ∙ often-without x m (queue l) waits ∙ ap₂ (λ y ms. often x (y ∷ ms)) one (sym order ∙ sym (bag l′)))
+    where
+      one : m ≡ n
+      one = cc

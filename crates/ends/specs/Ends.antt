@@ -4,7 +4,6 @@ use lib.Dec.{eqb, ltb}
 use lib.ListN.{length}
 use mathlib.Core.Bool.{Bool, cond}
 use mathlib.Core.List.{List, [], _∷_, _++_}
-use mathlib.Core.Path.{_≡_}
 use Rattle.slots.specs.Entries.{without}
 use Rattle.std.specs.declared.option.Option.{Option}
 use Rattle.std.specs.declared.option.Option.the-variants.{None, Some}
@@ -41,14 +40,12 @@ fronts older (m ∷ queue) = cond (stands-behind m older) (fronts (older ++ (m �
 abbrev pub row : List Message → Meaning
 row queue = record { bag = queue; offers = fronts [] queue; gate = end-gate queue }
 
--- what keeps its messages in the order of posting
-module _ {L : Type 0} (queue : L → List Message) where
-  -- post: through an open gate the message goes to the end
-  abbrev pub Enqueued : Gate → Message → L → L → Result (Unit {0}) GateClosed → Type 0
-  Enqueued Open m before after r = (r ≡ Ok tt) × (queue after ≡ queue before ++ (m ∷ []))
-  Enqueued (Closed d) m before after r = (r ≡ Err (record { depth = d })) × (after ≡ before)
+-- the order of posting after a post: a message that was let in stands behind all others
+abbrev pub enqueued : Message → Result (Unit {0}) GateClosed → List Message → List Message
+enqueued m (Ok done) queue = queue ++ (m ∷ [])
+enqueued m (Err closed) queue = queue
 
-  -- take: the oldest of its like goes, and the others keep their order
-  abbrev pub Dequeued : Option Message → L → L → Option Message → Type 0
-  Dequeued None before after r = (r ≡ None) × (after ≡ before)
-  Dequeued (Some m) before after r = (r ≡ Some m) × (queue after ≡ without (same m) (queue before))
+-- and after a take: the oldest message like the one taken is gone, and the others keep their order
+abbrev pub dequeued : Option Message → List Message → List Message
+dequeued None queue = queue
+dequeued (Some m) queue = without (same m) queue

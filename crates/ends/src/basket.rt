@@ -2,9 +2,9 @@
 ghost use mathlib.Core.List.{[]};
 ghost use mathlib.Core.Path.{_≡_};
 ghost use Rattle.ends.specs.Queues.{basket-meaning, contents};
-use crate::keys::ByKind;
-use crate::keys::BySender;
 use crate::keys::KindNumber;
+use crate::keys::MatchesKind;
+use crate::keys::MatchesSender;
 use crate::keys::Sender;
 use crate::places::Places;
 use link::gate::Gate;
@@ -12,6 +12,7 @@ use link::gate::GateClosed;
 use link::interface::Link;
 use link::message::Message;
 
+// A basket, by the places of its messages.
 #[derive(Drop)]
 pub struct Basket {
     places: Places,

@@ -28,7 +28,7 @@ pub struct Way {
 #[derive(Clone, Copy)]
 pub struct Exactly(pub Message);
 
-pub impl Matches<Every> for Message as ByNothing {
+pub impl Matches<Every> for Message as MatchesEvery {
     ghost fits = { λ _ _. true };
 
     fn matches(&self, _key: &Every) -> bool {
@@ -36,7 +36,7 @@ pub impl Matches<Every> for Message as ByNothing {
     }
 }
 
-pub impl Matches<Sender> for Message as BySender {
+pub impl Matches<Sender> for Message as MatchesSender {
     ghost fits = { λ k. sent-by (k .0) };
 
     fn matches(&self, key: &Sender) -> bool {
@@ -44,7 +44,7 @@ pub impl Matches<Sender> for Message as BySender {
     }
 }
 
-pub impl Matches<KindNumber> for Message as ByKind {
+pub impl Matches<KindNumber> for Message as MatchesKind {
     ghost fits = { λ k. of-kind (k .0) };
 
     fn matches(&self, key: &KindNumber) -> bool {
@@ -52,7 +52,7 @@ pub impl Matches<KindNumber> for Message as ByKind {
     }
 }
 
-pub impl Matches<Way> for Message as ByWay {
+pub impl Matches<Way> for Message as MatchesWay {
     ghost fits = { λ k. between (k .sender) (k .receiver) };
 
     fn matches(&self, key: &Way) -> bool {
@@ -60,7 +60,7 @@ pub impl Matches<Way> for Message as ByWay {
     }
 }
 
-pub impl Matches<Exactly> for Message as ByAll {
+pub impl Matches<Exactly> for Message as MatchesExactly {
     ghost fits = { λ k. same (k .0) };
 
     fn matches(&self, key: &Exactly) -> bool {

@@ -1,17 +1,20 @@
 // The 128 places of a link that stands alone, in which messages wait in the order of posting.
 ghost use lib.ListN.{length};
 ghost use mathlib.Core.List.{[]};
+ghost use mathlib.Core.Bool.{false};
 ghost use mathlib.Core.Path.{_≡_};
 ghost use Prim.Native.Nat.{_≤_};
+ghost use Rattle.std.specs.Results.{isOk};
 ghost use Rattle.std.specs.shelf.Lists.{countBy};
 ghost use Rattle.std.specs.shelf.Maps.{nth};
 ghost use Rattle.slots.specs.Entries.{Packed, entries, first, without};
-ghost use Rattle.ends.specs.Ends.{Enqueued, end-gate};
+ghost use Rattle.ends.specs.Ends.{end-gate, enqueued};
+ghost use Rattle.link.specs.Gates.{passed};
 ghost use Rattle.link.specs.Messages.{same};
-use crate::keys::ByAll;
-use crate::keys::ByNothing;
 use crate::keys::Every;
 use crate::keys::Exactly;
+use crate::keys::MatchesEvery;
+use crate::keys::MatchesExactly;
 use link::gate::Gate;
 use link::gate::GateClosed;
 use link::message::Message;
@@ -78,9 +81,11 @@ impl Places {
         }
     }
 
-    // Lets a message in behind the others if its sender's gate is open.
+    // Lets a message in behind the others if its sender's gate is open; else nothing changes.
     pub fn post(&mut self, message: Message) -> Result<(), GateClosed>
-        ensures { λ r. ⌜ Enqueued (λ p. entries (p .slots)) (end-gate (entries (now (self .entry) .slots)) (message .sender)) message (now (self .entry)) (now (self .exit)) r ⌝ }
+        ensures value { λ r. ⌜ r ≡ passed (end-gate (entries (now (self .entry) .slots)) (message .sender)) ⌝ }
+        ensures order { λ r. ⌜ entries (now (self .exit) .slots) ≡ enqueued message r (entries (now (self .entry) .slots)) ⌝ }
+        ensures same { λ r. ⌜ (isOk r ≡ false → now (self .exit) ≡ now (self .entry)) ⌝ }
     {
         self.gate(message.sender).pass()?;
         // an open gate is an empty place

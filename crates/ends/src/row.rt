@@ -7,13 +7,13 @@ ghost use Prim.Native.Nat.{_+_, _<_};
 ghost use Rattle.std.specs.Vec.{listOf};
 ghost use Rattle.std.specs.shelf.Maps.{nth};
 ghost use Rattle.slots.specs.Entries.{entries};
-ghost use Rattle.ends.specs.Ends.{Dequeued, Enqueued, fronts};
+ghost use Rattle.ends.specs.Ends.{dequeued, enqueued, fronts};
 ghost use Rattle.link.specs.Meaning.{Posted, Taken};
 ghost use Rattle.ends.specs.Queues.{queue, row-meaning};
-use crate::keys::ByKind;
-use crate::keys::BySender;
-use crate::keys::ByWay;
 use crate::keys::KindNumber;
+use crate::keys::MatchesKind;
+use crate::keys::MatchesSender;
+use crate::keys::MatchesWay;
 use crate::keys::Sender;
 use crate::keys::Way;
 use crate::places::Places;
@@ -22,6 +22,7 @@ use link::gate::GateClosed;
 use link::interface::Link;
 use link::message::Message;
 
+// A row, by the places of its messages.
 #[derive(Drop)]
 pub struct Row {
     places: Places,
@@ -92,16 +93,16 @@ pub impl Link for Row as RowLink {
 
     // A message that is let in goes behind all others.
     fn post(&mut self, message: Message) -> Result<(), GateClosed>
-        ensures { λ r. ⌜ Posted row-meaning (row-meaning (now (self .entry)) .gate (message .sender)) message (now (self .entry)) (now (self .exit)) r ⌝ }
-        ensures { λ r. ⌜ Enqueued queue (row-meaning (now (self .entry)) .gate (message .sender)) message (now (self .entry)) (now (self .exit)) r ⌝ }
+        ensures { λ r. ⌜ Posted row-meaning message (now (self .entry)) (now (self .exit)) r ⌝ }
+        ensures { λ r. ⌜ queue (now (self .exit)) ≡ enqueued message r (queue (now (self .entry))) ⌝ }
     {
         self.places.post(message)
     }
 
     // The messages that stay keep their order.
     fn take(&mut self, place: u32) -> Option<Message>
-        ensures { λ r. ⌜ Taken row-meaning (nth (row-meaning (now (self .entry)) .offers) place) (now (self .entry)) (now (self .exit)) r ⌝ }
-        ensures { λ r. ⌜ Dequeued queue (nth (row-meaning (now (self .entry)) .offers) place) (now (self .entry)) (now (self .exit)) r ⌝ }
+        ensures { λ r. ⌜ Taken row-meaning place (now (self .entry)) (now (self .exit)) r ⌝ }
+        ensures { λ r. ⌜ queue (now (self .exit)) ≡ dequeued r (queue (now (self .entry))) ⌝ }
     {
         let message = self.offer(place)?;
         self.places.strike(message)

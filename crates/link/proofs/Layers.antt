@@ -10,7 +10,7 @@ use Rattle.std.proofs.shelf.Tests.{cond-both, cond-false, cond-true, le-ltb, lt
 use Rattle.std.specs.declared.option.Option.{Option}
 use Rattle.std.specs.declared.option.Option.the-variants.{None, Some}
 use Rattle.link.specs.Gates.{deepened, gate-of}
-use Rattle.link.specs.Meaning.{Lawful, Meaning, Taken}
+use Rattle.link.specs.Meaning.{Lawful, Meaning, TakenBy}
 use Rattle.link.specs.Messages.{sent-by}
 use Rattle.link.specs.Sharing.{in-force, shared}
 use Rattle.link.specs.declared.gate.Gate.{Gate}
@@ -18,7 +18,7 @@ use Rattle.link.specs.declared.gate.Gate.the-variants.{Closed, Open}
 use Rattle.link.specs.declared.message.Message.{Message}
 
 module _ {L S : Type 0} (below : L → Meaning) (above : S → Meaning) where
-  pub taken-through : (o : Option Message) (b b′ : L) (s s′ : S) (r : Option Message) → above s .bag ≡ below b .bag → above s′ .bag ≡ below b′ .bag → (b′ ≡ b → s′ ≡ s) → Taken below o b b′ r → Taken above o s s′ r
+  pub taken-through : (o : Option Message) (b b′ : L) (s s′ : S) (r : Option Message) → above s .bag ≡ below b .bag → above s′ .bag ≡ below b′ .bag → (b′ ≡ b → s′ ≡ s) → TakenBy below o b b′ r → TakenBy above o s s′ r
   taken-through None b b′ s s′ r bag bag′ same taken = (taken .0, same (taken .1))
   taken-through (Some m) b b′ s s′ r bag bag′ same taken = (taken .0, rw (bag, bag′) (taken .1))
 

@@ -7,6 +7,7 @@ use Rattle.std.specs.declared.option.Option.{Option}
 use Rattle.std.specs.declared.option.Option.the-variants.{None, Some}
 use Rattle.std.specs.declared.result.Result.{Result}
 use Rattle.std.specs.declared.result.Result.the-variants.{Ok, Err}
+use Rattle.std.specs.shelf.Maps.{nth}
 use Rattle.link.specs.Messages.{often, SameBag}
 use Rattle.link.specs.declared.gate.Gate.{Gate}
 use Rattle.link.specs.declared.gate.Gate.the-variants.{Open, Closed}
@@ -33,12 +34,20 @@ pub record Lawful (m : Meaning) : Type 0 where
   pub shallow : (s d : ℕ) → m .gate s ≡ Closed d → d ≤ 255
 
 module _ {L : Type 0} (meaning : L → Meaning) where
-  -- post: an open gate lets the message in once; a closed one answers its depth and changes nothing
-  abbrev pub Posted : Gate → Message → L → L → Result (Unit {0}) GateClosed → Type 0
-  Posted Open m before after r = (r ≡ Ok tt) × SameBag (meaning after .bag) (m ∷ meaning before .bag)
-  Posted (Closed d) m before after r = (r ≡ Err (record { depth = d })) × (after ≡ before)
+  -- by the sender's gate: open, it lets the message in once; closed, it answers its depth and nothing changes
+  abbrev pub PostedBy : Gate → Message → L → L → Result (Unit {0}) GateClosed → Type 0
+  PostedBy Open m before after r = (r ≡ Ok tt) × SameBag (meaning after .bag) (m ∷ meaning before .bag)
+  PostedBy (Closed d) m before after r = (r ≡ Err (record { depth = d })) × (after ≡ before)
 
-  -- take: the offer at a place leaves the bag once; at a place without an offer nothing changes
-  abbrev pub Taken : Option Message → L → L → Option Message → Type 0
-  Taken None before after r = (r ≡ None) × (after ≡ before)
-  Taken (Some m) before after r = (r ≡ Some m) × SameBag (meaning before .bag) (m ∷ meaning after .bag)
+  -- what a post of m does and answers
+  abbrev pub Posted : Message → L → L → Result (Unit {0}) GateClosed → Type 0
+  Posted m before after r = PostedBy (meaning before .gate (m .sender)) m before after r
+
+  -- by the offer at the place: it leaves the bag, once; where there is none, nothing changes
+  abbrev pub TakenBy : Option Message → L → L → Option Message → Type 0
+  TakenBy None before after r = (r ≡ None) × (after ≡ before)
+  TakenBy (Some m) before after r = (r ≡ Some m) × SameBag (meaning before .bag) (m ∷ meaning after .bag)
+
+  -- what a take at a place does and answers
+  abbrev pub Taken : ℕ → L → L → Option Message → Type 0
+  Taken place before after r = TakenBy (nth (meaning before .offers) place) before after r

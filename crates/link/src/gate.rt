@@ -2,7 +2,8 @@
 ghost use mathlib.Core.Path.{_≡_};
 ghost use Rattle.link.specs.Gates.{deepened, passed};
 
-// A station's gate: open, or closed at a depth, which says how many layers up from there the answer came.
+// A station's gate: open, or closed at a depth, the number of layers from the one asked down to the one
+// that closed it.
 #[derive(Clone, Copy, PartialEq, Eq, Debug)]
 pub enum Gate {
     Open,

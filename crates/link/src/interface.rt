@@ -23,11 +23,11 @@ pub trait Link {
 
     // Adds the message if its sender's gate is open; else nothing changes and the answer is the depth.
     fn post(&mut self, message: Message) -> Result<(), GateClosed>
-        ensures { λ r. ⌜ Posted meaning (meaning (now (self .entry)) .gate (message .sender)) message (now (self .entry)) (now (self .exit)) r ⌝ };
+        ensures { λ r. ⌜ Posted meaning message (now (self .entry)) (now (self .exit)) r ⌝ };
 
     // Takes the offer at a place off the link; where there is none, nothing changes.
     fn take(&mut self, place: u32) -> Option<Message>
-        ensures { λ r. ⌜ Taken meaning (nth (meaning (now (self .entry)) .offers) place) (now (self .entry)) (now (self .exit)) r ⌝ };
+        ensures { λ r. ⌜ Taken meaning place (now (self .entry)) (now (self .exit)) r ⌝ };
 
     // The offer at a place.
     fn offer(&self, place: u32) -> Option<Message>

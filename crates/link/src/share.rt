@@ -1,7 +1,6 @@
 // The share: a layer over any link that lets each station have only so many messages waiting.
 ghost use mathlib.Core.List.{[]};
 ghost use mathlib.Core.Path.{_≡_};
-ghost use Rattle.std.specs.shelf.Maps.{nth};
 ghost use Rattle.link.specs.Meaning.{Posted, Taken};
 ghost use Rattle.link.specs.Sharing.{in-force, share-meaning};
 use crate::gate::Gate;
@@ -44,7 +43,7 @@ pub impl<L: Link> Link for Share<L> as ShareLink {
     }
 
     fn post(&mut self, message: Message) -> Result<(), GateClosed>
-        ensures { λ r. ⌜ Posted (share-meaning (L·Link .meaning)) (share-meaning (L·Link .meaning) (now (self .entry)) .gate (message .sender)) message (now (self .entry)) (now (self .exit)) r ⌝ }
+        ensures { λ r. ⌜ Posted (share-meaning (L·Link .meaning)) message (now (self .entry)) (now (self .exit)) r ⌝ }
         ensures { λ _. ⌜ now (self .exit) .limit ≡ now (self .entry) .limit ⌝ }
     {
         self.gate(message.sender).pass()?;
@@ -52,7 +51,7 @@ pub impl<L: Link> Link for Share<L> as ShareLink {
     }
 
     fn take(&mut self, place: u32) -> Option<Message>
-        ensures { λ r. ⌜ Taken (share-meaning (L·Link .meaning)) (nth (share-meaning (L·Link .meaning) (now (self .entry)) .offers) place) (now (self .entry)) (now (self .exit)) r ⌝ }
+        ensures { λ r. ⌜ Taken (share-meaning (L·Link .meaning)) place (now (self .entry)) (now (self .exit)) r ⌝ }
         ensures { λ _. ⌜ now (self .exit) .limit ≡ now (self .entry) .limit ⌝ }
     {
         self.below.take(place)

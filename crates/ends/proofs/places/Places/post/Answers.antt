@@ -2,10 +2,9 @@ use lib.ListN.{length}
 use mathlib.Core.Path.{_≡_, ap, subst, sym, _∙_}
 use Rattle.slots.specs.Entries.{Packed, entries}
 use Rattle.slots.proofs.Laws.{entries-placed, length-placed, packed-placed}
-use Rattle.ends.specs.Ends.{end-gate}
+use Rattle.std.proofs.shelf.Tests.{true≢false}
 use Rattle.link.specs.Gates.{passed}
-use Rattle.link.specs.declared.gate.Gate.the-variants.{Open}
-use Rattle.ends.proofs.Ends.{enqueued, open-passed, room-open}
+use Rattle.ends.proofs.Ends.{open-passed, room-open}
 use Rattle.ends.proofs.places.Places.post.Needs as need
 
 pub ghost-self : need.ghost-self
@@ -17,7 +16,10 @@ ghost-self c =
 pub returns : need.returns
 returns c =
     let before = c .args .self .now in
-    let way : end-gate (entries (before .slots)) (c .args .message .sender) ≡ Open =
-    open-passed _ (ap passed (sym (c .gate .ensures)) ∙ sym (c .in-Continue-pass .ensures tt)) in
-    enqueued (λ p. entries (p .slots)) _ _ _ _ way
-    (ap entries (c .place .ensures .after) ∙ entries-placed _ _ (before .packed) (room-open _ _ (before .sized) way))
+    let answer = sym (ap passed (sym (c .gate .ensures)) ∙ sym (c .in-Continue-pass .ensures tt)) in
+    let room = room-open _ _ (before .sized) (open-passed _ (sym answer)) in
+    record {
+      value = answer;
+      order = ap entries (c .place .ensures .after) ∙ entries-placed _ _ (before .packed) room;
+      same = λ refused. absurd (true≢false refused);
+    }

@@ -6,7 +6,7 @@ use Rattle.std.specs.Orderings.{Decides}
 use Rattle.link.specs.Messages.{same}
 use Rattle.link.specs.declared.message.Message.{Message}
 use Rattle.link.proofs.Bags.{alike, same-alike}
-use Rattle.ends.proofs.keys.ByAll.matches.Needs as need
+use Rattle.ends.proofs.keys.MatchesExactly.matches.Needs as need
 
 -- where a fact holds, a test that came out false does not decide it
 missed : {P : Type 0} → P → Decides false P → ⊥

@@ -1,6 +1,6 @@
 use borrow.Author.Needs.{needs}
 use Rattle.link.specs.Messages.{between}
-use Rattle.ends.proofs.keys.ByWay.matches.Needs as need
+use Rattle.ends.proofs.keys.MatchesWay.matches.Needs as need
 
 pub returns-then-self-key : need.returns-then-self-key
 unfolding between
