@@ -1,16 +1,16 @@
 // The 128 places of a link that stands alone, in which messages wait in the order of posting.
 ghost use lib.ListN.{length};
-ghost use mathlib.Core.List.{[]};
 ghost use mathlib.Core.Bool.{false};
+ghost use mathlib.Core.List.{[]};
 ghost use mathlib.Core.Path.{_≡_};
 ghost use Prim.Native.Nat.{_≤_};
 ghost use Rattle.std.specs.Results.{isOk};
 ghost use Rattle.std.specs.shelf.Lists.{countBy};
 ghost use Rattle.std.specs.shelf.Maps.{nth};
 ghost use Rattle.slots.specs.Entries.{Packed, entries, first, without};
-ghost use Rattle.ends.specs.Ends.{end-gate, enqueued};
 ghost use Rattle.link.specs.Gates.{passed};
 ghost use Rattle.link.specs.Messages.{same};
+ghost use Rattle.ends.specs.Ends.{end-gate, enqueued};
 use crate::keys::Every;
 use crate::keys::Exactly;
 use crate::keys::MatchesEvery;

@@ -11,8 +11,9 @@ use crate::gate::Gate;
 use crate::gate::GateClosed;
 use crate::message::Message;
 
-// A radio link: messages wait on it, some of them are on offer, and each station has a gate.
+// A radio link: messages wait on it in a bag, some of them are on offer, and each station has a gate.
 pub trait Link {
+    // the bag, the offers and the gates
     ghost meaning: { Self → Meaning };
 
     law lawful: { (l : Self) → Lawful (meaning l) };

@@ -3,8 +3,8 @@ ghost use mathlib.Core.Path.{_≡_};
 ghost use Rattle.std.specs.Options.{Cases};
 ghost use Rattle.link.specs.Kinds.{carried, kind-number};
 
-// What a message is about. A copy passes a reference on, dirty and clean tell the owner of a trace to
-// list or unlist the sender, and each has its ack.
+// What a message is for. A copy passes a reference on; dirty asks the owner of a trace to list the sender
+// as one who refers to it, and clean to list it no longer; each has its ack.
 #[derive(Clone, Copy, PartialEq, Eq, Debug)]
 pub enum Kind {
     Copy,
@@ -46,7 +46,9 @@ impl Kind {
     }
 }
 
-// A message as the radio has it: its kind is a number, since a radio can carry any.
+// A message as the radio has it, from one station (gauge, relay or logger) to another, about a trace, which
+// is a stretch of readings in its owner's memory. The kind is a number, since a radio can carry any. The
+// packet number tells the copies that a station sends apart.
 #[derive(Clone, Copy, PartialEq, Eq, Debug)]
 pub struct Message {
     pub kind: u8,

@@ -1,13 +1,13 @@
 // Tables of entries over lent slices: one text for placing an entry, striking one that matches a key
 // and counting those that match. A place is `None` where it is empty, and an empty place matches nothing.
-ghost use Prim.Native.Nat.{_+_};
 ghost use lib.Dec.{ltb};
 ghost use lib.ListN.{length};
 ghost use mathlib.Core.Bool.{Bool, cond};
 ghost use mathlib.Core.List.{[], _∷_};
 ghost use mathlib.Core.Path.{_≡_};
-ghost use Rattle.std.specs.Results.{isOk};
+ghost use Prim.Native.Nat.{_+_};
 ghost use Rattle.std.specs.Options.{Cases, isSome};
+ghost use Rattle.std.specs.Results.{isOk};
 ghost use Rattle.std.specs.declared.option.Option.the-variants.{Some};
 ghost use Rattle.slots.specs.Entries.{Found, entries, first, hit, placed, struck, times};
 
