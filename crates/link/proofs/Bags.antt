@@ -1,5 +1,6 @@
 -- Messages that are the same, and how often one is in a list.
 use Prim.Native.Nat.{ℕ, zero, suc, _+_, _<_}
+use native.Mathlib.Nat.{add-left-comm}
 use native.Mathlib.Omega.{arith}
 use lib.ListN.{length}
 use mathlib.Core.Bool.{Bool, true, false, cond}
@@ -101,8 +102,11 @@ sumBy-without f m (y ∷ ms) some′ =
     (λ no′.
     let less : often m (y ∷ ms) ≡ often m ms = often-cons m y ms ∙ rw no′ (omega arith) in
     let more : 0 < often m ms = rw less at some′ in
-    let rest = sumBy-without f m ms more in
-    rw (without-no (same m) y ms no′) (omega (arith, sumBy-cons f y ms, sumBy-cons f y (without (same m) ms))))
+    sumBy-cons f y ms
+    ∙ ap (λ n. f y + n) (sumBy-without f m ms more)
+    ∙ add-left-comm (f y) (f m) (sumBy f (without (same m) ms))
+    ∙ ap (λ n. f m + n) (sym (sumBy-cons f y (without (same m) ms)))
+    ∙ ap (λ xs. f m + sumBy f xs) (sym (without-no (same m) y ms no′)))
     (cases-bool (same m y))
 
 -- without one like m, each message is there as often as before, but for m once less

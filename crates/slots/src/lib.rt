@@ -2,10 +2,10 @@
 // and counting those that match. A place is `None` where it is empty, and an empty place matches nothing.
 ghost use lib.Dec.{ltb};
 ghost use lib.ListN.{length};
-ghost use mathlib.Core.Bool.{Bool, cond};
+ghost use mathlib.Core.Bool.{Bool, cond, true};
 ghost use mathlib.Core.List.{[], _∷_};
 ghost use mathlib.Core.Path.{_≡_};
-ghost use Prim.Native.Nat.{_+_};
+ghost use Prim.Native.Nat.{_+_, _<_};
 ghost use Rattle.std.specs.Options.{Cases, isSome};
 ghost use Rattle.std.specs.Results.{isOk};
 ghost use Rattle.std.specs.declared.option.Option.the-variants.{Some};
@@ -28,6 +28,7 @@ pub struct Full;
 pub fn place<E: Copy>(slots: &mut [Option<E>], entry: E) -> Result<(), Full>
     ensures after { λ _. ⌜ now (slots .exit) ≡ placed entry (now (slots .entry)) ⌝ }
     ensures test { λ r. ⌜ isOk r ≡ ltb (length (entries (now (slots .entry)))) (length (now (slots .entry))) ⌝ }
+    ensures room { λ r. ⌜ ((q : E → Bool) → ((e : E) → q e ≡ true) → times q (now (slots .entry)) < length (now (slots .entry)) → isOk r ≡ true) ⌝ }
     ensures counts { λ r. ⌜ ((q : E → Bool) → times q (now (slots .exit)) ≡ times q (now (slots .entry)) + cond (isOk r) (times q (Some entry ∷ [])) 0) ⌝ }
 {
     for i in 0..slots.len() {

@@ -5,7 +5,7 @@ use lib.ListN.{length}
 use Rattle.std.proofs.shelf.Lists.{take-all}
 use Rattle.std.proofs.shelf.Tests.{lt-ltb, le-ltb}
 use Rattle.slots.specs.Entries.{entries, placed, times}
-use Rattle.slots.proofs.Laws.{times-placed}
+use Rattle.slots.proofs.Laws.{room-from-times, times-placed}
 use Rattle.slots.proofs.Places.{placed-at, room-at, taken-more, placed-full}
 use Rattle.slots.proofs.place.Needs as need
 
@@ -19,6 +19,7 @@ returns-then-is-none g c =
     record {
       after = after;
       test = sym (lt-ltb _ _ room);
+      room = λ q all few. refl;
       counts = λ q. ap (times q) after ∙ times-placed q (c .args .entry) (c .args .slots .now) room;
     }
 
@@ -34,6 +35,7 @@ returns g c =
     record {
       after = same ∙ sym (placed-full (c .args .entry) _ full);
       test = sym (le-ltb _ _ full);
+      room = λ q all few. absurd (omega (arith, room-from-times q (c .args .slots .now) all few));
       counts = λ q. ap (times q) same ∙ omega arith;
     }
 
