@@ -26,7 +26,7 @@ enum Step {
     Take(u32),
 }
 
-// A message in words.
+// A message in words; only copies and their acks have a packet number to show.
 #[derive(Clone, Copy)]
 struct Shown(Message);
 
@@ -38,13 +38,11 @@ impl fmt::Display for Shown as ShownDisplay {
         let trace = message.trace;
         let sender = station_name(message.sender);
         let receiver = station_name(message.receiver);
-        if packet == 0 {
-            return write!(f, "{kind} of trace {trace} from {sender} to {receiver}");
+        write!(f, "{kind} ")?;
+        if matches!(Kind::of(message.kind), Some(Kind::Copy | Kind::CopyAck)) {
+            write!(f, "{packet} ")?;
         }
-        write!(
-            f,
-            "{kind} {packet} of trace {trace} from {sender} to {receiver}"
-        )
+        write!(f, "of trace {trace} from {sender} to {receiver}")
     }
 }
 

@@ -87,7 +87,7 @@ fronts-le older (m ∷ queue) =
     cond-both (stands-behind m older) more (m ∷ more) (λ ms. length ms ≤ suc (length queue)) (λ _. omega arith) (λ _. omega arith)
 
 -- the oldest message of all is at the front
-pub fronts-some : (queue : List Message) → 0 < length queue → 0 < length (fronts [] queue)
+fronts-some : (queue : List Message) → 0 < length queue → 0 < length (fronts [] queue)
 unfolding fronts
 fronts-some [] some′ = some′
 fronts-some (m ∷ queue) some′ = omega arith

@@ -30,7 +30,9 @@ pub record Lawful (m : Meaning) : Type 0 where
   pub lively : 0 < length (m .bag) → 0 < length (m .offers)
   -- while nothing waits, every gate is open
   pub quiet : length (m .bag) ≡ 0 → (s : ℕ) → s < 16 → m .gate s ≡ Open
+  -- a station above 15 has no gate: it finds the link closed at depth 0
   pub outside : (s : ℕ) → 16 ≤ s → m .gate s ≡ Closed 0
+  -- no depth is above 255
   pub shallow : (s d : ℕ) → m .gate s ≡ Closed d → d ≤ 255
 
 module _ {L : Type 0} (meaning : L → Meaning) where

@@ -21,7 +21,7 @@ use Rattle.slots.specs.Entries.{entries, first, Packed, placed, struck, times,
 use Rattle.slots.proofs.Counts.{entries-append, entries-le, times-append, times-le, times-none, times-some}
 
 module _ {E : Type 0} where
-  -- placing: one entry more, where there is room
+  -- placing: the table keeps its length, and has one entry more where there is room
   pub length-placed : (e : E) (xs : List (Option E)) → length (placed e xs) ≡ length xs
   unfolding placed
   length-placed e [] = refl
@@ -45,7 +45,7 @@ module _ {E : Type 0} where
       omega (arith, room-from-times q xs all (omega arith))
 
   module _ (p : E → Bool) where
-    -- striking: what an entry looks like once the first match is gone
+    -- striking: the first entry is the one that goes, or the one that goes stands behind it
     struck-yes : (x : E) (xs : List (Option E)) → p x ≡ true → struck p (Some x ∷ xs) ≡ xs ++ (None ∷ [])
     unfolding struck
     struck-yes x xs yes′ = cond-true _ _ _ yes′

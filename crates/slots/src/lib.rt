@@ -13,9 +13,10 @@ ghost use Rattle.slots.specs.Entries.{Found, entries, first, hit, placed, stru
 
 // An entry that can be told by a key.
 pub trait Matches<K> {
-    // whether an entry matches a key
+    // which entries match a key
     ghost fits: { K → Self → Bool };
 
+    // Whether this entry matches `key`.
     fn matches(&self, key: &K) -> bool
         ensures { λ r. ⌜ r ≡ fits (now (key .entry)) (now (self .entry)) ⌝ };
 }
