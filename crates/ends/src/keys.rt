@@ -1,13 +1,8 @@
 // The keys by which the links tell messages apart.
-ghost use mathlib.Core.Bool.{true};
 ghost use Rattle.link.specs.Messages.{between, of-kind, same, sent-by};
 use link::message::Message;
 use link::message::MessagePartialEq;
 use slots::Matches;
-
-// Every message.
-#[derive(Clone, Copy)]
-pub struct Every;
 
 // The messages from a station.
 #[derive(Clone, Copy)]
@@ -27,14 +22,6 @@ pub struct Way {
 // The messages that carry the same as this one.
 #[derive(Clone, Copy)]
 pub struct Exactly(pub Message);
-
-pub impl Matches<Every> for Message as MatchesEvery {
-    ghost fits = { λ _ _. true };
-
-    fn matches(&self, _key: &Every) -> bool {
-        true
-    }
-}
 
 pub impl Matches<Sender> for Message as MatchesSender {
     ghost fits = { λ k. sent-by (k .0) };

@@ -11,14 +11,14 @@ ghost use Rattle.slots.specs.Entries.{Packed, entries, first, without};
 ghost use Rattle.link.specs.Gates.{passed};
 ghost use Rattle.link.specs.Messages.{same};
 ghost use Rattle.ends.specs.Ends.{end-gate, enqueued};
-use crate::keys::Every;
 use crate::keys::Exactly;
-use crate::keys::MatchesEvery;
 use crate::keys::MatchesExactly;
 use link::gate::Gate;
 use link::gate::GateClosed;
 use link::message::Message;
+use slots::Every;
 use slots::Matches;
+use slots::MatchesEvery;
 
 // How many messages fit.
 const PLACES: usize = 128;
