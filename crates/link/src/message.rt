@@ -1,7 +1,6 @@
 // Messages, their kinds, and the keys by which they are told.
 ghost use mathlib.Core.Path.{_≡_};
-ghost use Rattle.std.specs.Options.{Cases};
-ghost use Rattle.link.specs.Kinds.{carried, kind-number};
+ghost use Rattle.link.specs.Kinds.{carried, kind-number, kind-of};
 
 // What a message is for. A copy passes a reference on; dirty asks the owner of a trace to list the sender
 // as one who refers to it, and clean to list it no longer; each has its ack.
@@ -32,7 +31,7 @@ impl Kind {
 
     // The kind with this number, if there is one.
     pub fn of(number: u8) -> Option<Kind>
-        ensures { λ r. ⌜ Cases r ((k : Kind) → kind-number k ≡ number → ⊥) (λ k. kind-number k ≡ number) ⌝ }
+        ensures { λ r. ⌜ r ≡ kind-of number ⌝ }
     {
         match number {
             1 => Some(Kind::Copy),

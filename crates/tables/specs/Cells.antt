@@ -1,7 +1,7 @@
 -- One station and one trace: what the states and duties mean, and the small changes.
 use Prim.Native.Nat.{ℕ, _+_, _-_}
 use lib.Dec.{eqb}
-use mathlib.Core.Bool.{Bool, true, false, cond, not, _&&_}
+use mathlib.Core.Bool.{Bool, true, false, cond, not, _&&_, _||_}
 use Rattle.std.specs.declared.option.Option.{Option}
 use Rattle.std.specs.declared.option.Option.the-variants.{Some}
 use Rattle.std.specs.declared.option.Option.the-variants.{None as nothing}
@@ -23,6 +23,13 @@ blank = record {
   «clean_ack» = false;
 }
 
+abbrev pub is-nil : State → Bool
+is-nil None = false
+is-nil Nil = true
+is-nil Ok = false
+is-nil Ccit = false
+is-nil CcitNil = false
+
 abbrev pub is-ok : State → Bool
 is-ok None = false
 is-ok Nil = false
@@ -30,9 +37,27 @@ is-ok Ok = true
 is-ok Ccit = false
 is-ok CcitNil = false
 
+abbrev pub is-ccit : State → Bool
+is-ccit None = false
+is-ccit Nil = false
+is-ccit Ok = false
+is-ccit Ccit = true
+is-ccit CcitNil = false
+
+abbrev pub is-ccitnil : State → Bool
+is-ccitnil None = false
+is-ccitnil Nil = false
+is-ccitnil Ok = false
+is-ccitnil Ccit = false
+is-ccitnil CcitNil = true
+
 -- the station holds the trace: it is in ok, and no clean call is due
 abbrev pub holds : Cell → Bool
 holds c = is-ok (c .state) && not (c .clean)
+
+-- the station awaits the trace: a copy came, and the owner has not confirmed it
+abbrev pub awaits : Cell → Bool
+awaits c = is-nil (c .state) || is-ccitnil (c .state)
 
 -- whether a duty is due
 abbrev pub owes : Duty → Cell → Bool

@@ -1,6 +1,6 @@
 // What a field keeps for one station and one trace.
 ghost use mathlib.Core.Path.{_≡_};
-ghost use Rattle.tables.specs.Cells.{blank, given-back, holds, in-state, owes, used, with-duty, with-listed};
+ghost use Rattle.tables.specs.Cells.{awaits, blank, given-back, holds, in-state, owes, used, with-duty, with-listed};
 
 // How a station stands to a trace. Nil: a copy came, and the owner has not confirmed it. Ccit: a clean call
 // is in transit, sent and not confirmed. CcitNil: as Ccit, and a copy came since.
@@ -59,6 +59,16 @@ impl Cell {
     {
         match self.state {
             State::Ok => !self.clean,
+            _ => false,
+        }
+    }
+
+    // Whether the station awaits the trace: a copy came, and the owner has not confirmed it.
+    pub fn awaits(self) -> bool
+        ensures { λ r. ⌜ r ≡ awaits self ⌝ }
+    {
+        match self.state {
+            State::Nil | State::CcitNil => true,
             _ => false,
         }
     }

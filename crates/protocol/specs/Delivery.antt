@@ -1,0 +1,103 @@
+-- The step of a delivery: what happens depends on the message's kind and on the state at the receiver.
+use Prim.Native.Nat.{ℕ}
+use lib.Dec.{eqb}
+use mathlib.Core.Bool.{Bool, true, false, not, _&&_, _||_}
+use mathlib.Core.List.{List, [], _∷_, map}
+use Rattle.std.specs.declared.option.Option.{Option}
+use Rattle.std.specs.declared.option.Option.the-variants.{None as nothing, Some}
+use Rattle.slots.specs.Entries.{placed, struck, times}
+use Rattle.link.specs.Kinds.{kind-of}
+use Rattle.link.specs.declared.message.Kind.{Kind}
+use Rattle.link.specs.declared.message.Kind.the-variants.{Copy, CopyAck, Dirty, DirtyAck, Clean, CleanAck}
+use Rattle.link.specs.declared.message.Message.{Message}
+use Rattle.tables.specs.Cells.{in-state, is-ccit, is-ccitnil, is-nil, is-ok, with-duty, with-listed}
+use Rattle.tables.specs.Copies.{freed, same-hand-on}
+use Rattle.tables.specs.Kept.{cell-at, trace-at, with-cell, with-received, with-sent}
+use Rattle.tables.specs.declared.cell.Cell.{Cell}
+use Rattle.tables.specs.declared.cell.Duty.the-variants.{Clean as clean-call, CleanAck as owed-clean-ack, Dirty as dirty-call, DirtyAck as owed-dirty-ack}
+use Rattle.tables.specs.declared.cell.State.{State}
+use Rattle.tables.specs.declared.cell.State.the-variants.{None, Nil, Ok, Ccit, CcitNil}
+use Rattle.tables.specs.declared.entries.HandOn.{HandOn}
+use Rattle.tables.specs.declared.tables.Tables.{Tables}
+use Rattle.protocol.specs.Calls.{Call, _when_, silent, takes}
+use Rattle.protocol.specs.Known.{full, in-field, is-opened}
+
+-- the hand-on that a copy carries out, and the one that a copy ack answers
+abbrev pub handed : Message → HandOn
+handed m = record { packet = m .packet; sender = m .sender; receiver = m .receiver; trace = m .trace }
+
+abbrev pub acked : Message → HandOn
+acked m = record { packet = m .packet; sender = m .receiver; receiver = m .sender; trace = m .trace }
+
+-- by its kind, a message that cannot be delivered here: a copy with 64 received entries, a copy ack without
+-- its sent entry, a dirty or clean not to the owner, a dirty ack not in nil, a clean ack not in ccit or ccitnil
+abbrev pub misplaced : Tables → Message → Option Kind → Bool
+misplaced T m nothing = true
+misplaced T m (Some Copy) = full (T .received)
+misplaced T m (Some CopyAck) = eqb (times (same-hand-on (acked m)) (T .sent)) 0
+misplaced T m (Some Dirty) = not (eqb (m .receiver) (trace-at T (m .trace) .owner))
+misplaced T m (Some DirtyAck) = not (is-nil (cell-at T (m .receiver) (m .trace) .state))
+misplaced T m (Some Clean) = not (eqb (m .receiver) (trace-at T (m .trace) .owner))
+misplaced T m (Some CleanAck) =
+    let state = cell-at T (m .receiver) (m .trace) .state in not (is-ccit state || is-ccitnil state)
+
+-- the message is out of place: of no known kind, from or to no station of the field, to its sender, about no
+-- opened trace, or by its kind
+abbrev pub out-of-place : Tables → Message → Bool
+out-of-place T m =
+    not (in-field T (m .sender))
+    || (not (in-field T (m .receiver))
+    || (eqb (m .sender) (m .receiver)
+    || (not (is-opened T (m .trace))
+    || misplaced T m (kind-of (m .kind)))))
+
+-- the receiver's cell once a copy has come: in ok, a clean call duty is struck; in none and ccit the station
+-- now awaits the trace and owes a dirty call; a station that awaits it already goes on so
+abbrev pub met-copy : State → Cell → Cell
+met-copy Ok c = with-duty clean-call false c
+met-copy None c = with-duty dirty-call true (in-state Nil c)
+met-copy Ccit c = with-duty dirty-call true (in-state CcitNil c)
+met-copy Nil c = c
+met-copy CcitNil c = c
+
+-- the state that a clean ack leaves
+abbrev pub clean-acked : State → State
+clean-acked Ccit = None
+clean-acked CcitNil = Nil
+clean-acked None = None
+clean-acked Nil = Nil
+clean-acked Ok = Ok
+
+-- the tables after a message of a kind was delivered. A copy adds a received entry, due in ok and else
+-- blocked; a copy ack strikes its sent entry; dirty lists the sender and clean unlists it, and an ack is
+-- owed; a dirty ack confirms the receiver and frees all that was blocked; a clean ack ends the clean call
+abbrev pub delivered : Tables → Message → Option Kind → Tables
+delivered T m nothing = T
+delivered T m (Some Copy) =
+    let c = cell-at T (m .receiver) (m .trace) in
+    with-received (placed (record { copy = handed m; due = is-ok (c .state) }) (T .received))
+    (with-cell (m .receiver) (m .trace) (met-copy (c .state) c) T)
+delivered T m (Some CopyAck) = with-sent (struck (same-hand-on (acked m)) (T .sent)) T
+delivered T m (Some Dirty) =
+    let c = cell-at T (m .sender) (m .trace) in
+    with-cell (m .sender) (m .trace) (with-duty owed-dirty-ack true (with-listed true c)) T
+delivered T m (Some Clean) =
+    let c = cell-at T (m .sender) (m .trace) in
+    with-cell (m .sender) (m .trace) (with-duty owed-clean-ack true (with-listed false c)) T
+delivered T m (Some DirtyAck) =
+    let c = cell-at T (m .receiver) (m .trace) in
+    with-received (map (freed (m .receiver) (m .trace)) (T .received))
+    (with-cell (m .receiver) (m .trace) (in-state Ok c) T)
+delivered T m (Some CleanAck) =
+    let c = cell-at T (m .receiver) (m .trace) in
+    with-cell (m .receiver) (m .trace) (in-state (clean-acked (c .state)) c) T
+
+-- deliver the offer at a place, if one has it: the message is taken
+abbrev pub delivering : Option Message → Tables → Call (Unit {0})
+delivering nothing T = record { checks = 18 when true ∷ []; answer = tt; after = T; radio = silent }
+delivering (Some m) T = record {
+  checks = 19 when out-of-place T m ∷ [];
+  answer = tt;
+  after = delivered T m (kind-of (m .kind));
+  radio = takes m;
+}

@@ -1,0 +1,110 @@
+-- The steps of the calls that a user makes.
+use Prim.Native.Nat.{ℕ, _+_, _-_}
+use lib.Dec.{eqb, ltb}
+use mathlib.Core.Bool.{Bool, true, not, _&&_}
+use mathlib.Core.List.{List, [], _∷_, _++_}
+use Rattle.std.specs.Options.{isSome}
+use Rattle.std.specs.declared.option.Option.{Option}
+use Rattle.std.specs.declared.option.Option.the-variants.{None, Some}
+use Rattle.slots.specs.Entries.{placed, times}
+use Rattle.link.specs.Kinds.{kind-number}
+use Rattle.link.specs.declared.gate.Gate.{Gate}
+use Rattle.link.specs.declared.message.Kind.the-variants.{Copy}
+use Rattle.tables.specs.Cells.{holds, in-state, with-duty, with-uses}
+use Rattle.tables.specs.Copies.{sent-by}
+use Rattle.tables.specs.Kept.{cell-at, list-empty, next-packet, trace-at, with-cell, with-erased, with-opened, with-sent, with-spent}
+use Rattle.tables.specs.declared.cell.Duty.the-variants.{Clean}
+use Rattle.tables.specs.declared.cell.State.the-variants.{None as none}
+use Rattle.tables.specs.declared.tables.Tables.{Tables}
+use Rattle.protocol.specs.Calls.{Call, _when_, posts, shut, silent}
+use Rattle.protocol.specs.Known.{full, in-field, is-opened, known}
+
+-- open a trace at s: it is owned by s and in ok there; the answer is its number
+abbrev pub opening : Tables → ℕ → Call ℕ
+opening T s = record {
+  checks = 1 when not (in-field T s) ∷ 3 when not (ltb (T .opened) 32) ∷ [];
+  answer = T .opened;
+  after = with-opened s T;
+  radio = silent;
+}
+
+-- use t at s: uses rise by one
+abbrev pub using-it : Tables → ℕ → ℕ → Call (Unit {0})
+using-it T s t =
+    let c = cell-at T s t in
+    record {
+      checks = known T s t ++ (5 when not (holds c) ∷ 11 when eqb (c .uses) 255 ∷ []);
+      answer = tt;
+      after = with-cell s t (with-uses (c .uses + 1) c) T;
+      radio = silent;
+    }
+
+-- give back a use of t at s: uses fall by one
+abbrev pub giving-back : Tables → ℕ → ℕ → Call (Unit {0})
+giving-back T s t =
+    let c = cell-at T s t in
+    record {
+      checks = known T s t ++ (12 when eqb (c .uses) 0 ∷ []);
+      answer = tt;
+      after = with-cell s t (with-uses (c .uses - 1) c) T;
+      radio = silent;
+    }
+
+-- the number, where there is one
+abbrev pub number : Option ℕ → ℕ
+number None = 0
+number (Some k) = k
+
+-- hand t on from s to d, by the gate of s: s spends its next packet number k, a sent entry is added and a
+-- copy posted; the answer is k
+abbrev pub handing-on : Gate → Tables → ℕ → ℕ → ℕ → Call ℕ
+handing-on gate T s d t =
+    let k = number (next-packet T s) in
+    record {
+      checks =
+          1 when not (in-field T s && in-field T d)
+          ∷ 2 when not (is-opened T t)
+          ∷ 4 when eqb s d
+          ∷ 5 when not (holds (cell-at T s t))
+          ∷ 13 when full (T .sent)
+          ∷ 14 when not (isSome (next-packet T s))
+          ∷ shut gate
+          ∷ [];
+      answer = k;
+      after = with-spent s (with-sent (placed (record { packet = k; sender = s; receiver = d; trace = t }) (T .sent)) T);
+      radio = posts (record { kind = kind-number Copy; sender = s; receiver = d; trace = t; packet = k });
+    }
+
+-- drop t at s: s gets a clean call duty
+abbrev pub dropping : Tables → ℕ → ℕ → Call (Unit {0})
+dropping T s t =
+    let c = cell-at T s t in
+    record {
+      checks =
+          known T s t
+          ++ (6 when eqb s (trace-at T t .owner)
+          ∷ 5 when not (holds c)
+          ∷ 8 when ltb 0 (c .uses)
+          ∷ 10 when ltb 0 (times (sent-by s t) (T .sent))
+          ∷ []);
+      answer = tt;
+      after = with-cell s t (with-duty Clean true c) T;
+      radio = silent;
+    }
+
+-- erase t at s: t is erased, and s has it no more
+abbrev pub erasing : Tables → ℕ → ℕ → Call (Unit {0})
+erasing T s t =
+    let c = cell-at T s t in
+    record {
+      checks =
+          known T s t
+          ++ (7 when not (eqb s (trace-at T t .owner))
+          ∷ 5 when not (holds c)
+          ∷ 8 when ltb 0 (c .uses)
+          ∷ 9 when not (list-empty T t)
+          ∷ []);
+      answer = tt;
+      after = with-cell s t (in-state none c) (with-erased t T);
+      radio = silent;
+    }
