@@ -1,8 +1,14 @@
 // Checks that several calls make.
 ghost use mathlib.Core.Path.{_≡_};
 ghost use Rattle.protocol.specs.Calls.{first-refusal, told, verdict};
-ghost use Rattle.protocol.specs.Known.{known};
+ghost use Rattle.protocol.specs.Known.{held-unused, known};
+ghost use Rattle.protocol.specs.UserCalls.{may-hand-on, number};
+ghost use Rattle.tables.specs.Kept.{next-packet};
 use protocol::refusal::Refusal;
+use slots::Every;
+use slots::MatchesEvery;
+use tables::cell::Cell;
+use tables::tables::ENTRIES;
 use tables::tables::Tables;
 
 // The station is in the field, and the trace was opened.
@@ -16,4 +22,44 @@ pub(crate) fn known(tables: &Tables, station: u8, trace: u8) -> Result<(), Refus
         return Err(Refusal::NoTrace);
     }
     Ok(())
+}
+
+// The station of the cell holds the trace and has no use of it.
+pub(crate) fn held_unused(cell: Cell) -> Result<(), Refusal>
+    ensures { λ r. ⌜ told r ≡ verdict (first-refusal (held-unused cell)) tt ⌝ }
+{
+    if !cell.holds() {
+        return Err(Refusal::NotHeld);
+    }
+    if cell.uses > 0 {
+        return Err(Refusal::InUse);
+    }
+    Ok(())
+}
+
+// All checks of a hand-on but that of the gate; the answer is the packet number.
+pub(crate) fn may_hand_on(
+    tables: &Tables,
+    sender: u8,
+    receiver: u8,
+    trace: u8,
+) -> Result<u32, Refusal>
+    ensures { λ r. ⌜ told r ≡ verdict (first-refusal (may-hand-on (now (tables .entry)) sender receiver trace)) (number (next-packet (now (tables .entry)) sender)) ⌝ }
+{
+    if !tables.has_station(sender) || !tables.has_station(receiver) {
+        return Err(Refusal::NoStation);
+    }
+    if !tables.has_trace(trace) {
+        return Err(Refusal::NoTrace);
+    }
+    if sender == receiver {
+        return Err(Refusal::ToItself);
+    }
+    if !tables.cell(sender, trace).holds() {
+        return Err(Refusal::NotHeld);
+    }
+    if slots::count(&tables.sent, &Every) >= ENTRIES {
+        return Err(Refusal::SentFull);
+    }
+    tables.next_packet(sender).ok_or(Refusal::PacketsSpent)
 }

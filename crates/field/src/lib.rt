@@ -2,11 +2,11 @@
 ghost use mathlib.Core.List.{[]};
 ghost use mathlib.Core.Path.{_≡_};
 ghost use Rattle.tables.specs.Kept.{rigged};
-use link::interface::Link;
 use crate::modes::Mode;
 use crate::modes::Working;
 use crate::modes::WorkingMode;
 use crate::rigging::Rigging;
+use link::interface::Link;
 use tables::tables::Tables;
 
 mod checks;

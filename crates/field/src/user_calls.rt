@@ -1,12 +1,22 @@
 // The calls that users make on a field that works.
 ghost use Rattle.field.specs.Carried.{Carried};
-ghost use Rattle.protocol.specs.UserCalls.{giving-back, opening, using-it};
+ghost use Rattle.protocol.specs.UserCalls.{dropping, erasing, giving-back, handing-on, opening, using-it};
 use crate::Field;
+use crate::checks::held_unused;
 use crate::checks::known;
+use crate::checks::may_hand_on;
 use crate::modes::Working;
 use crate::modes::WorkingMode;
 use link::interface::Link;
+use link::message::Kind;
+use link::message::Message;
+use protocol::refusal::ClosedRefusal;
 use protocol::refusal::Refusal;
+use tables::cell::Duty;
+use tables::cell::State;
+use tables::entries::HandOn;
+use tables::entries::MatchesSentBy;
+use tables::entries::SentBy;
 
 impl<L: Link> Field<L, Working> {
     // Opens a trace at a station, and answers its number.
@@ -30,6 +40,81 @@ impl<L: Link> Field<L, Working> {
         }
         let cell = cell.used().ok_or(Refusal::UsesSpent)?;
         self.tables.set_cell(station, trace, cell);
+        Ok(())
+    }
+
+    // Gives one use of a trace at a station back.
+    pub fn give_back(&mut self, station: u8, trace: u8) -> Result<(), Refusal>
+        ensures { λ r. ⌜ Carried (L·Link .meaning) (λ m. m) (giving-back (now (self .entry) .tables) station trace) (now (self .entry)) (now (self .exit)) r ⌝ }
+    {
+        known(&self.tables, station, trace)?;
+        let cell = self.tables.cell(station, trace);
+        let cell = cell.given_back().ok_or(Refusal::NoUse)?;
+        self.tables.set_cell(station, trace, cell);
+        Ok(())
+    }
+
+    // Hands a trace on from a station to another, and answers the packet number of the copy.
+    pub fn hand_on(&mut self, sender: u8, receiver: u8, trace: u8) -> Result<u32, Refusal>
+        ensures { λ r. ⌜ Carried (L·Link .meaning) (λ m. m) (handing-on (L·Link .meaning (now (self .entry) .link) .gate sender) (now (self .entry) .tables) sender receiver trace) (now (self .entry)) (now (self .exit)) r ⌝ }
+    {
+        let packet = may_hand_on(&self.tables, sender, receiver, trace)?;
+        self.link
+            .post(Message::new(Kind::Copy, sender, receiver, trace, packet))?;
+        let entry = HandOn {
+            packet,
+            sender,
+            receiver,
+            trace,
+        };
+        // there is room: that was checked
+        let _ = slots::place(&mut self.tables.sent, entry);
+        self.tables.spend(sender);
+        Ok(packet)
+    }
+
+    // Drops a trace at a station that holds it: the station owes a clean call.
+    pub fn drop_trace(&mut self, station: u8, trace: u8) -> Result<(), Refusal>
+        ensures { λ r. ⌜ Carried (L·Link .meaning) (λ m. m) (dropping (now (self .entry) .tables) station trace) (now (self .entry)) (now (self .exit)) r ⌝ }
+    {
+        known(&self.tables, station, trace)?;
+        if station == self.tables.trace(trace).owner {
+            return Err(Refusal::DropByOwner);
+        }
+        let cell = self.tables.cell(station, trace);
+        held_unused(cell)?;
+        if slots::count(
+            &self.tables.sent,
+            &SentBy {
+                sender: station,
+                trace,
+            },
+        )
+            > 0
+        {
+            return Err(Refusal::CopyOut);
+        }
+        self.tables
+            .set_cell(station, trace, cell.with_duty(Duty::Clean, true));
+        Ok(())
+    }
+
+    // Erases a trace at its owner.
+    pub fn erase(&mut self, station: u8, trace: u8) -> Result<(), Refusal>
+        ensures { λ r. ⌜ Carried (L·Link .meaning) (λ m. m) (erasing (now (self .entry) .tables) station trace) (now (self .entry)) (now (self .exit)) r ⌝ }
+    {
+        known(&self.tables, station, trace)?;
+        if station != self.tables.trace(trace).owner {
+            return Err(Refusal::EraseByOther);
+        }
+        let cell = self.tables.cell(station, trace);
+        held_unused(cell)?;
+        if !self.tables.list_is_empty(trace) {
+            return Err(Refusal::Listed);
+        }
+        self.tables.erase(trace);
+        self.tables
+            .set_cell(station, trace, cell.in_state(State::None));
         Ok(())
     }
 }

@@ -19,7 +19,6 @@ pub record Check : Type 0 where
   pub met : Bool
 
 infixr 70 _when_
-
 -- the refusal with this number, under this condition
 abbrev pub _when_ : ℕ → Bool → Check
 n when b = record { refusal = numbered n; met = b }

@@ -5,6 +5,8 @@ use mathlib.Core.Bool.{Bool, true, not}
 use mathlib.Core.List.{List, [], _∷_}
 use Rattle.slots.specs.Entries.{times}
 use Rattle.std.specs.declared.option.Option.{Option}
+use Rattle.tables.specs.Cells.{holds}
+use Rattle.tables.specs.declared.cell.Cell.{Cell}
 use Rattle.tables.specs.declared.tables.Tables.{Tables}
 use Rattle.protocol.specs.Calls.{Check, _when_}
 
@@ -19,6 +21,10 @@ is-opened T t = ltb t (T .opened)
 -- the station is in the field, and the trace was opened
 abbrev pub known : Tables → ℕ → ℕ → List Check
 known T s t = 1 when not (in-field T s) ∷ 2 when not (is-opened T t) ∷ []
+
+-- the station holds the trace and has no use of it
+abbrev pub held-unused : Cell → List Check
+held-unused c = 5 when not (holds c) ∷ 8 when ltb 0 (c .uses) ∷ []
 
 -- 64 entries stand in the table
 abbrev pub full : {E : Type 0} → List (Option E) → Bool

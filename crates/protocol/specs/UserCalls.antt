@@ -16,8 +16,8 @@ use Rattle.tables.specs.Kept.{cell-at, list-empty, next-packet, trace-at, with-
 use Rattle.tables.specs.declared.cell.Duty.the-variants.{Clean}
 use Rattle.tables.specs.declared.cell.State.the-variants.{None as none}
 use Rattle.tables.specs.declared.tables.Tables.{Tables}
-use Rattle.protocol.specs.Calls.{Call, _when_, posts, shut, silent}
-use Rattle.protocol.specs.Known.{full, in-field, is-opened, known}
+use Rattle.protocol.specs.Calls.{Call, Check, _when_, posts, shut, silent}
+use Rattle.protocol.specs.Known.{full, held-unused, in-field, is-opened, known}
 
 -- open a trace at s: it is owned by s and in ok there; the answer is its number
 abbrev pub opening : Tables → ℕ → Call ℕ
@@ -55,21 +55,24 @@ abbrev pub number : Option ℕ → ℕ
 number None = 0
 number (Some k) = k
 
+-- the checks of a hand-on, but for the gate
+abbrev pub may-hand-on : Tables → ℕ → ℕ → ℕ → List Check
+may-hand-on T s d t =
+    1 when not (in-field T s && in-field T d)
+    ∷ 2 when not (is-opened T t)
+    ∷ 4 when eqb s d
+    ∷ 5 when not (holds (cell-at T s t))
+    ∷ 13 when full (T .sent)
+    ∷ 14 when not (isSome (next-packet T s))
+    ∷ []
+
 -- hand t on from s to d, by the gate of s: s spends its next packet number k, a sent entry is added and a
 -- copy posted; the answer is k
 abbrev pub handing-on : Gate → Tables → ℕ → ℕ → ℕ → Call ℕ
 handing-on gate T s d t =
     let k = number (next-packet T s) in
     record {
-      checks =
-          1 when not (in-field T s && in-field T d)
-          ∷ 2 when not (is-opened T t)
-          ∷ 4 when eqb s d
-          ∷ 5 when not (holds (cell-at T s t))
-          ∷ 13 when full (T .sent)
-          ∷ 14 when not (isSome (next-packet T s))
-          ∷ shut gate
-          ∷ [];
+      checks = may-hand-on T s d t ++ (shut gate ∷ []);
       answer = k;
       after = with-spent s (with-sent (placed (record { packet = k; sender = s; receiver = d; trace = t }) (T .sent)) T);
       radio = posts (record { kind = kind-number Copy; sender = s; receiver = d; trace = t; packet = k });
@@ -83,10 +86,8 @@ dropping T s t =
       checks =
           known T s t
           ++ (6 when eqb s (trace-at T t .owner)
-          ∷ 5 when not (holds c)
-          ∷ 8 when ltb 0 (c .uses)
-          ∷ 10 when ltb 0 (times (sent-by s t) (T .sent))
-          ∷ []);
+          ∷ held-unused c
+          ++ (10 when ltb 0 (times (sent-by s t) (T .sent)) ∷ []));
       answer = tt;
       after = with-cell s t (with-duty Clean true c) T;
       radio = silent;
@@ -100,10 +101,8 @@ erasing T s t =
       checks =
           known T s t
           ++ (7 when not (eqb s (trace-at T t .owner))
-          ∷ 5 when not (holds c)
-          ∷ 8 when ltb 0 (c .uses)
-          ∷ 9 when not (list-empty T t)
-          ∷ []);
+          ∷ held-unused c
+          ++ (9 when not (list-empty T t) ∷ []));
       answer = tt;
       after = with-cell s t (in-state none c) (with-erased t T);
       radio = silent;
