@@ -3,11 +3,14 @@ ghost use mathlib.Core.Path.{_≡_};
 ghost use Rattle.protocol.specs.Calls.{first-refusal, told, verdict};
 ghost use Rattle.protocol.specs.Known.{held-unused, known};
 ghost use Rattle.protocol.specs.UserCalls.{may-hand-on, number};
-ghost use Rattle.tables.specs.Kept.{next-packet};
+ghost use Rattle.protocol.specs.HouseCalls.{may-send};
+ghost use Rattle.tables.specs.Kept.{cell-at, next-packet};
 use protocol::refusal::Refusal;
 use slots::Every;
 use slots::MatchesEvery;
 use tables::cell::Cell;
+use tables::cell::Duty;
+use tables::cell::State;
 use tables::tables::ENTRIES;
 use tables::tables::Tables;
 
@@ -62,4 +65,19 @@ pub(crate) fn may_hand_on(
         return Err(Refusal::SentFull);
     }
     tables.next_packet(sender).ok_or(Refusal::PacketsSpent)
+}
+
+// All checks of the sending of a duty but that of the gate; the answer is the cell of the duty.
+pub(crate) fn may_send(tables: &Tables, duty: Duty, station: u8, trace: u8) -> Result<Cell, Refusal>
+    ensures { λ r. ⌜ told r ≡ verdict (first-refusal (may-send duty (now (tables .entry)) station trace)) (cell-at (now (tables .entry)) station trace) ⌝ }
+{
+    known(tables, station, trace)?;
+    let cell = tables.cell(station, trace);
+    if !cell.owes(duty) {
+        return Err(Refusal::NoDuty);
+    }
+    match (duty, cell.state) {
+        (Duty::Dirty, State::CcitNil) => Err(Refusal::DirtyInCcitNil),
+        _ => Ok(cell),
+    }
 }

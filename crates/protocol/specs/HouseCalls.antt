@@ -19,7 +19,7 @@ use Rattle.tables.specs.declared.cell.Duty.the-variants.{Clean, CleanAck, Dirty
 use Rattle.tables.specs.declared.cell.State.the-variants.{Ccit}
 use Rattle.tables.specs.declared.entries.Received.{Received}
 use Rattle.tables.specs.declared.tables.Tables.{Tables}
-use Rattle.protocol.specs.Calls.{Call, _when_, posts, shut}
+use Rattle.protocol.specs.Calls.{Call, Check, _when_, posts, shut}
 use Rattle.protocol.specs.Known.{in-field, known}
 
 -- the trace of an entry, where there is one
@@ -73,13 +73,19 @@ done DirtyAck c = with-duty DirtyAck false c
 done Clean c = in-state Ccit (with-duty Clean false c)
 done CleanAck c = with-duty CleanAck false c
 
+-- the checks of the sending of a duty, but for the gate
+abbrev pub may-send : Duty → Tables → ℕ → ℕ → List Check
+may-send duty T s t =
+    let c = cell-at T s t in
+    known T s t ++ (16 when not (owes duty c) ∷ 17 when too-early duty c ∷ [])
+
 -- send dirty, dirty ack, clean or clean ack, for the duty of s and t, by the gate of the one that sends
 abbrev pub sending : Duty → Gate → Tables → ℕ → ℕ → Call (Unit {0})
 sending duty gate T s t =
     let c = cell-at T s t in
     let owner = trace-at T t .owner in
     record {
-      checks = known T s t ++ (16 when not (owes duty c) ∷ 17 when too-early duty c ∷ shut gate ∷ []);
+      checks = may-send duty T s t ++ (shut gate ∷ []);
       answer = tt;
       after = with-cell s t (done duty c) T;
       radio =

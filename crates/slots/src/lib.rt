@@ -76,6 +76,14 @@ fn find<K, E: Matches<K>>(slots: &[Option<E>], key: &K) -> Option<usize>
     None
 }
 
+// The first entry that matches `key`.
+pub fn first<K, E: Matches<K> + Copy>(slots: &[Option<E>], key: &K) -> Option<E>
+    ensures { λ r. ⌜ r ≡ first (E·Matches .fits (now (key .entry))) (now (slots .entry)) ⌝ }
+{
+    let at = find(slots, key)?;
+    slots[at]
+}
+
 // Takes the first entry that matches `key` out and returns it. The places behind it move up by one, so
 // the others keep their order, and the last place is empty. Where none matches, nothing changes.
 pub fn strike<K, E: Matches<K> + Copy>(slots: &mut [Option<E>], key: &K) -> Option<E>
