@@ -2,7 +2,6 @@
 ghost use mathlib.Core.Path.{_≡_};
 ghost use Rattle.link.specs.Kinds.{kind-number};
 ghost use Rattle.protocol.specs.HouseCalls.{done, kind-due, receiver-of, sender-of, sending, sending-copy-ack};
-ghost use Rattle.tables.specs.Kept.{trace-at};
 ghost use Rattle.tables.specs.declared.cell.Duty.the-variants.{Clean, CleanAck, Dirty, DirtyAck};
 ghost use Rattle.field.specs.Carried.{Carried};
 use crate::Field;
@@ -45,7 +44,7 @@ fn done(duty: Duty, cell: Cell) -> Cell
 impl<L: Link, M: Mode> Field<L, M> {
     // Does a duty of a station and a trace.
     fn send(&mut self, duty: Duty, station: u8, trace: u8) -> Result<(), Refusal>
-        ensures { λ r. ⌜ Carried (L·Link .meaning) (M·Mode .counted) (sending duty (L·Link .meaning (now (self .entry) .link) .gate (sender-of duty station (trace-at (now (self .entry) .tables) trace .owner))) (now (self .entry) .tables) station trace) (now (self .entry)) (now (self .exit)) r ⌝ }
+        ensures { λ r. ⌜ Carried (L·Link .meaning) (M·Mode .counted) (sending duty station trace) (now (self .entry)) (now (self .exit)) r ⌝ }
     {
         let cell = may_send(&self.tables, duty, station, trace)?;
         let owner = self.tables.trace(trace).owner;
@@ -57,35 +56,35 @@ impl<L: Link, M: Mode> Field<L, M> {
 
     // Sends a station's dirty call for a trace to the owner.
     pub fn send_dirty(&mut self, station: u8, trace: u8) -> Result<(), Refusal>
-        ensures { λ r. ⌜ Carried (L·Link .meaning) (M·Mode .counted) (sending Dirty (L·Link .meaning (now (self .entry) .link) .gate station) (now (self .entry) .tables) station trace) (now (self .entry)) (now (self .exit)) r ⌝ }
+        ensures { λ r. ⌜ Carried (L·Link .meaning) (M·Mode .counted) (sending Dirty station trace) (now (self .entry)) (now (self .exit)) r ⌝ }
     {
         self.send(Duty::Dirty, station, trace)
     }
 
     // Sends the owner's dirty ack for a trace to a station.
     pub fn send_dirty_ack(&mut self, station: u8, trace: u8) -> Result<(), Refusal>
-        ensures { λ r. ⌜ Carried (L·Link .meaning) (M·Mode .counted) (sending DirtyAck (L·Link .meaning (now (self .entry) .link) .gate (trace-at (now (self .entry) .tables) trace .owner)) (now (self .entry) .tables) station trace) (now (self .entry)) (now (self .exit)) r ⌝ }
+        ensures { λ r. ⌜ Carried (L·Link .meaning) (M·Mode .counted) (sending DirtyAck station trace) (now (self .entry)) (now (self .exit)) r ⌝ }
     {
         self.send(Duty::DirtyAck, station, trace)
     }
 
     // Sends a station's clean call for a trace to the owner.
     pub fn send_clean(&mut self, station: u8, trace: u8) -> Result<(), Refusal>
-        ensures { λ r. ⌜ Carried (L·Link .meaning) (M·Mode .counted) (sending Clean (L·Link .meaning (now (self .entry) .link) .gate station) (now (self .entry) .tables) station trace) (now (self .entry)) (now (self .exit)) r ⌝ }
+        ensures { λ r. ⌜ Carried (L·Link .meaning) (M·Mode .counted) (sending Clean station trace) (now (self .entry)) (now (self .exit)) r ⌝ }
     {
         self.send(Duty::Clean, station, trace)
     }
 
     // Sends the owner's clean ack for a trace to a station.
     pub fn send_clean_ack(&mut self, station: u8, trace: u8) -> Result<(), Refusal>
-        ensures { λ r. ⌜ Carried (L·Link .meaning) (M·Mode .counted) (sending CleanAck (L·Link .meaning (now (self .entry) .link) .gate (trace-at (now (self .entry) .tables) trace .owner)) (now (self .entry) .tables) station trace) (now (self .entry)) (now (self .exit)) r ⌝ }
+        ensures { λ r. ⌜ Carried (L·Link .meaning) (M·Mode .counted) (sending CleanAck station trace) (now (self .entry)) (now (self .exit)) r ⌝ }
     {
         self.send(Duty::CleanAck, station, trace)
     }
 
     // Sends the copy ack that is due at a station for a packet number of a sender.
     pub fn send_copy_ack(&mut self, station: u8, sender: u8, packet: u32) -> Result<(), Refusal>
-        ensures { λ r. ⌜ Carried (L·Link .meaning) (M·Mode .counted) (sending-copy-ack (L·Link .meaning (now (self .entry) .link) .gate station) (now (self .entry) .tables) station sender packet) (now (self .entry)) (now (self .exit)) r ⌝ }
+        ensures { λ r. ⌜ Carried (L·Link .meaning) (M·Mode .counted) (sending-copy-ack station sender packet) (now (self .entry)) (now (self .exit)) r ⌝ }
     {
         if !self.tables.has_station(station) || !self.tables.has_station(sender) {
             return Err(Refusal::NoStation);
@@ -96,7 +95,8 @@ impl<L: Link, M: Mode> Field<L, M> {
             packet,
         };
         let entry = slots::first(&self.tables.received, &key).ok_or(Refusal::NoDuty)?;
-        self.link.post(Message::new(Kind::CopyAck, station, sender, entry.copy.trace, packet))?;
+        self.link
+            .post(Message::new(Kind::CopyAck, station, sender, entry.copy.trace, packet))?;
         let _ = slots::strike(&mut self.tables.received, &key);
         self.mode.count();
         Ok(())

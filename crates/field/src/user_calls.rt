@@ -21,7 +21,7 @@ use tables::entries::SentBy;
 impl<L: Link> Field<L, Working> {
     // Opens a trace at a station, and answers its number.
     pub fn open(&mut self, station: u8) -> Result<u8, Refusal>
-        ensures { λ r. ⌜ Carried (L·Link .meaning) (λ m. m) (opening (now (self .entry) .tables) station) (now (self .entry)) (now (self .exit)) r ⌝ }
+        ensures { λ r. ⌜ Carried (L·Link .meaning) (λ m. m) (opening station) (now (self .entry)) (now (self .exit)) r ⌝ }
     {
         if !self.tables.has_station(station) {
             return Err(Refusal::NoStation);
@@ -31,7 +31,7 @@ impl<L: Link> Field<L, Working> {
 
     // Takes one more use of a trace at a station.
     pub fn use_trace(&mut self, station: u8, trace: u8) -> Result<(), Refusal>
-        ensures { λ r. ⌜ Carried (L·Link .meaning) (λ m. m) (using-it (now (self .entry) .tables) station trace) (now (self .entry)) (now (self .exit)) r ⌝ }
+        ensures { λ r. ⌜ Carried (L·Link .meaning) (λ m. m) (using-it station trace) (now (self .entry)) (now (self .exit)) r ⌝ }
     {
         known(&self.tables, station, trace)?;
         let cell = self.tables.cell(station, trace);
@@ -45,7 +45,7 @@ impl<L: Link> Field<L, Working> {
 
     // Gives one use of a trace at a station back.
     pub fn give_back(&mut self, station: u8, trace: u8) -> Result<(), Refusal>
-        ensures { λ r. ⌜ Carried (L·Link .meaning) (λ m. m) (giving-back (now (self .entry) .tables) station trace) (now (self .entry)) (now (self .exit)) r ⌝ }
+        ensures { λ r. ⌜ Carried (L·Link .meaning) (λ m. m) (giving-back station trace) (now (self .entry)) (now (self .exit)) r ⌝ }
     {
         known(&self.tables, station, trace)?;
         let cell = self.tables.cell(station, trace);
@@ -56,7 +56,7 @@ impl<L: Link> Field<L, Working> {
 
     // Hands a trace on from a station to another, and answers the packet number of the copy.
     pub fn hand_on(&mut self, sender: u8, receiver: u8, trace: u8) -> Result<u32, Refusal>
-        ensures { λ r. ⌜ Carried (L·Link .meaning) (λ m. m) (handing-on (L·Link .meaning (now (self .entry) .link) .gate sender) (now (self .entry) .tables) sender receiver trace) (now (self .entry)) (now (self .exit)) r ⌝ }
+        ensures { λ r. ⌜ Carried (L·Link .meaning) (λ m. m) (handing-on sender receiver trace) (now (self .entry)) (now (self .exit)) r ⌝ }
     {
         let packet = may_hand_on(&self.tables, sender, receiver, trace)?;
         self.link
@@ -75,7 +75,7 @@ impl<L: Link> Field<L, Working> {
 
     // Drops a trace at a station that holds it: the station owes a clean call.
     pub fn drop_trace(&mut self, station: u8, trace: u8) -> Result<(), Refusal>
-        ensures { λ r. ⌜ Carried (L·Link .meaning) (λ m. m) (dropping (now (self .entry) .tables) station trace) (now (self .entry)) (now (self .exit)) r ⌝ }
+        ensures { λ r. ⌜ Carried (L·Link .meaning) (λ m. m) (dropping station trace) (now (self .entry)) (now (self .exit)) r ⌝ }
     {
         known(&self.tables, station, trace)?;
         if station == self.tables.trace(trace).owner {
@@ -101,7 +101,7 @@ impl<L: Link> Field<L, Working> {
 
     // Erases a trace at its owner.
     pub fn erase(&mut self, station: u8, trace: u8) -> Result<(), Refusal>
-        ensures { λ r. ⌜ Carried (L·Link .meaning) (λ m. m) (erasing (now (self .entry) .tables) station trace) (now (self .entry)) (now (self .exit)) r ⌝ }
+        ensures { λ r. ⌜ Carried (L·Link .meaning) (λ m. m) (erasing station trace) (now (self .entry)) (now (self .exit)) r ⌝ }
     {
         known(&self.tables, station, trace)?;
         if station != self.tables.trace(trace).owner {

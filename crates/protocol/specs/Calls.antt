@@ -6,6 +6,7 @@ use Rattle.std.specs.declared.option.Option.{Option}
 use Rattle.std.specs.declared.option.Option.the-variants.{None, Some}
 use Rattle.std.specs.declared.result.Result.{Result}
 use Rattle.std.specs.declared.result.Result.the-variants.{Ok, Err}
+use Rattle.link.specs.Meaning.{Meaning}
 use Rattle.link.specs.declared.gate.Gate.{Gate}
 use Rattle.link.specs.declared.gate.Gate.the-variants.{Open, Closed}
 use Rattle.link.specs.declared.message.Message.{Message}
@@ -46,6 +47,10 @@ pub record Call (A : Type 0) : Type 0 where
   pub answer : A
   pub after : Tables
   pub radio : Radio
+
+-- the step of a call: what it is on given tables, over a link that means this
+abbrev pub Step : Type 0 → Type 0
+Step A = Tables → Meaning → Call A
 
 -- an answer with its refusal told by number
 abbrev pub told : {A : Type 0} → Result A Refusal → Result A Fault

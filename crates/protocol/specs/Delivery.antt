@@ -5,6 +5,7 @@ use mathlib.Core.Bool.{Bool, true, false, not, _&&_, _||_}
 use mathlib.Core.List.{List, [], _∷_, map}
 use Rattle.std.specs.declared.option.Option.{Option}
 use Rattle.std.specs.declared.option.Option.the-variants.{None as nothing, Some}
+use Rattle.std.specs.shelf.Maps.{nth}
 use Rattle.slots.specs.Entries.{placed, struck, times}
 use Rattle.link.specs.Kinds.{kind-of}
 use Rattle.link.specs.declared.message.Kind.{Kind}
@@ -19,7 +20,7 @@ use Rattle.tables.specs.declared.cell.State.{State}
 use Rattle.tables.specs.declared.cell.State.the-variants.{None, Nil, Ok, Ccit, CcitNil}
 use Rattle.tables.specs.declared.entries.HandOn.{HandOn}
 use Rattle.tables.specs.declared.tables.Tables.{Tables}
-use Rattle.protocol.specs.Calls.{Call, _when_, silent, takes}
+use Rattle.protocol.specs.Calls.{Call, Step, _when_, silent, takes}
 use Rattle.protocol.specs.Known.{full, in-field, is-opened}
 
 -- the hand-on that a copy carries out, and the one that a copy ack answers
@@ -92,12 +93,16 @@ delivered T m (Some CleanAck) =
     let c = cell-at T (m .receiver) (m .trace) in
     with-cell (m .receiver) (m .trace) (in-state (clean-acked (c .state)) c) T
 
--- deliver the offer at a place, if one has it: the message is taken
-abbrev pub delivering : Option Message → Tables → Call (Unit {0})
-delivering nothing T = record { checks = 18 when true ∷ []; answer = tt; after = T; radio = silent }
-delivering (Some m) T = record {
+-- deliver an offer: the message is taken
+abbrev pub delivering-offer : Option Message → Tables → Call (Unit {0})
+delivering-offer nothing T = record { checks = 18 when true ∷ []; answer = tt; after = T; radio = silent }
+delivering-offer (Some m) T = record {
   checks = 19 when out-of-place T m ∷ [];
   answer = tt;
   after = delivered T m (kind-of (m .kind));
   radio = takes m;
 }
+
+-- deliver the offer at a place, if one has it
+abbrev pub delivering : ℕ → Step (Unit {0})
+delivering place T link = delivering-offer (nth (link .offers) place) T

@@ -7,7 +7,6 @@ use Rattle.std.specs.declared.option.Option.{Option}
 use Rattle.std.specs.declared.option.Option.the-variants.{None, Some}
 use Rattle.slots.specs.Entries.{first, struck}
 use Rattle.link.specs.Kinds.{kind-number}
-use Rattle.link.specs.declared.gate.Gate.{Gate}
 use Rattle.link.specs.declared.message.Kind.{Kind}
 use Rattle.link.specs.declared.message.Kind.the-variants.{Clean as a-clean, CleanAck as a-clean-ack, CopyAck, Dirty as a-dirty, DirtyAck as a-dirty-ack}
 use Rattle.tables.specs.Cells.{in-state, is-ccitnil, owes, with-duty}
@@ -19,7 +18,7 @@ use Rattle.tables.specs.declared.cell.Duty.the-variants.{Clean, CleanAck, Dirty
 use Rattle.tables.specs.declared.cell.State.the-variants.{Ccit}
 use Rattle.tables.specs.declared.entries.Received.{Received}
 use Rattle.tables.specs.declared.tables.Tables.{Tables}
-use Rattle.protocol.specs.Calls.{Call, Check, _when_, posts, shut}
+use Rattle.protocol.specs.Calls.{Check, Step, _when_, posts, shut}
 use Rattle.protocol.specs.Known.{in-field, known}
 
 -- the trace of an entry, where there is one
@@ -28,11 +27,11 @@ trace-of None = 0
 trace-of (Some e) = e .copy .trace
 
 -- send the copy ack at s for number k of sender p, by the gate of s: the due received entry goes
-abbrev pub sending-copy-ack : Gate → Tables → ℕ → ℕ → ℕ → Call (Unit {0})
-sending-copy-ack gate T s p k =
+abbrev pub sending-copy-ack : ℕ → ℕ → ℕ → Step (Unit {0})
+sending-copy-ack s p k T link =
     let entry = first (due-from s p k) (T .received) in
     record {
-      checks = 1 when not (in-field T s && in-field T p) ∷ 16 when not (isSome entry) ∷ shut gate ∷ [];
+      checks = 1 when not (in-field T s && in-field T p) ∷ 16 when not (isSome entry) ∷ shut (link .gate s) ∷ [];
       answer = tt;
       after = with-received (struck (due-from s p k) (T .received)) T;
       radio = posts (record { kind = kind-number CopyAck; sender = s; receiver = p; trace = trace-of entry; packet = k });
@@ -80,12 +79,12 @@ may-send duty T s t =
     known T s t ++ (16 when not (owes duty c) ∷ 17 when too-early duty c ∷ [])
 
 -- send dirty, dirty ack, clean or clean ack, for the duty of s and t, by the gate of the one that sends
-abbrev pub sending : Duty → Gate → Tables → ℕ → ℕ → Call (Unit {0})
-sending duty gate T s t =
+abbrev pub sending : Duty → ℕ → ℕ → Step (Unit {0})
+sending duty s t T link =
     let c = cell-at T s t in
     let owner = trace-at T t .owner in
     record {
-      checks = may-send duty T s t ++ (shut gate ∷ []);
+      checks = may-send duty T s t ++ (shut (link .gate (sender-of duty s owner)) ∷ []);
       answer = tt;
       after = with-cell s t (done duty c) T;
       radio =

@@ -8,7 +8,6 @@ use Rattle.std.specs.declared.option.Option.{Option}
 use Rattle.std.specs.declared.option.Option.the-variants.{None, Some}
 use Rattle.slots.specs.Entries.{placed, times}
 use Rattle.link.specs.Kinds.{kind-number}
-use Rattle.link.specs.declared.gate.Gate.{Gate}
 use Rattle.link.specs.declared.message.Kind.the-variants.{Copy}
 use Rattle.tables.specs.Cells.{holds, in-state, with-duty, with-uses}
 use Rattle.tables.specs.Copies.{sent-by}
@@ -16,12 +15,12 @@ use Rattle.tables.specs.Kept.{cell-at, list-empty, next-packet, trace-at, with-
 use Rattle.tables.specs.declared.cell.Duty.the-variants.{Clean}
 use Rattle.tables.specs.declared.cell.State.the-variants.{None as none}
 use Rattle.tables.specs.declared.tables.Tables.{Tables}
-use Rattle.protocol.specs.Calls.{Call, Check, _when_, posts, shut, silent}
+use Rattle.protocol.specs.Calls.{Check, Step, _when_, posts, shut, silent}
 use Rattle.protocol.specs.Known.{full, held-unused, in-field, is-opened, known}
 
 -- open a trace at s: it is owned by s and in ok there; the answer is its number
-abbrev pub opening : Tables → ℕ → Call ℕ
-opening T s = record {
+abbrev pub opening : ℕ → Step ℕ
+opening s T _ = record {
   checks = 1 when not (in-field T s) ∷ 3 when not (ltb (T .opened) 32) ∷ [];
   answer = T .opened;
   after = with-opened s T;
@@ -29,8 +28,8 @@ opening T s = record {
 }
 
 -- use t at s: uses rise by one
-abbrev pub using-it : Tables → ℕ → ℕ → Call (Unit {0})
-using-it T s t =
+abbrev pub using-it : ℕ → ℕ → Step (Unit {0})
+using-it s t T _ =
     let c = cell-at T s t in
     record {
       checks = known T s t ++ (5 when not (holds c) ∷ 11 when eqb (c .uses) 255 ∷ []);
@@ -40,8 +39,8 @@ using-it T s t =
     }
 
 -- give back a use of t at s: uses fall by one
-abbrev pub giving-back : Tables → ℕ → ℕ → Call (Unit {0})
-giving-back T s t =
+abbrev pub giving-back : ℕ → ℕ → Step (Unit {0})
+giving-back s t T _ =
     let c = cell-at T s t in
     record {
       checks = known T s t ++ (12 when eqb (c .uses) 0 ∷ []);
@@ -68,19 +67,19 @@ may-hand-on T s d t =
 
 -- hand t on from s to d, by the gate of s: s spends its next packet number k, a sent entry is added and a
 -- copy posted; the answer is k
-abbrev pub handing-on : Gate → Tables → ℕ → ℕ → ℕ → Call ℕ
-handing-on gate T s d t =
+abbrev pub handing-on : ℕ → ℕ → ℕ → Step ℕ
+handing-on s d t T link =
     let k = number (next-packet T s) in
     record {
-      checks = may-hand-on T s d t ++ (shut gate ∷ []);
+      checks = may-hand-on T s d t ++ (shut (link .gate s) ∷ []);
       answer = k;
       after = with-spent s (with-sent (placed (record { packet = k; sender = s; receiver = d; trace = t }) (T .sent)) T);
       radio = posts (record { kind = kind-number Copy; sender = s; receiver = d; trace = t; packet = k });
     }
 
 -- drop t at s: s gets a clean call duty
-abbrev pub dropping : Tables → ℕ → ℕ → Call (Unit {0})
-dropping T s t =
+abbrev pub dropping : ℕ → ℕ → Step (Unit {0})
+dropping s t T _ =
     let c = cell-at T s t in
     record {
       checks =
@@ -94,8 +93,8 @@ dropping T s t =
     }
 
 -- erase t at s: t is erased, and s has it no more
-abbrev pub erasing : Tables → ℕ → ℕ → Call (Unit {0})
-erasing T s t =
+abbrev pub erasing : ℕ → ℕ → Step (Unit {0})
+erasing s t T _ =
     let c = cell-at T s t in
     record {
       checks =

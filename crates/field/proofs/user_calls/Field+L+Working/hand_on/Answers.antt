@@ -13,6 +13,6 @@ returns-in-Break-packet g c =
     let a = c .args in
     let field = a .self .now in
     let gate = g .L·Link .meaning (field .link) .gate (a .sender) in
-    refused-early (g .L·Link .meaning) (λ m. m) (handing-on gate (field .tables) (a .sender) (a .receiver) (a .trace))
-    (may-hand-on (field .tables) (a .sender) (a .receiver) (a .trace)) (shut gate ∷ []) _ _ field (c .from-residual .result) refl
+    refused-early (g .L·Link .meaning) (λ m. m) (handing-on (a .sender) (a .receiver) (a .trace)) field
+    (may-hand-on (field .tables) (a .sender) (a .receiver) (a .trace)) (shut gate ∷ []) _ _ (c .from-residual .result) refl
     (c .in-Break-packet .ensures tt) (p .1 ∙ ap Err (p .2))
