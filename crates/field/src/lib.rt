@@ -10,6 +10,7 @@ use link::interface::Link;
 use tables::tables::Tables;
 
 mod checks;
+pub mod deliver;
 pub mod house_calls;
 pub mod modes;
 pub mod rigging;

@@ -15,6 +15,7 @@ use Rattle.tables.specs.Cells.{in-state, is-ccit, is-ccitnil, is-nil, is-ok, wi
 use Rattle.tables.specs.Copies.{freed, same-hand-on}
 use Rattle.tables.specs.Kept.{cell-at, trace-at, with-cell, with-received, with-sent}
 use Rattle.tables.specs.declared.cell.Cell.{Cell}
+use Rattle.tables.specs.declared.cell.Duty.{Duty}
 use Rattle.tables.specs.declared.cell.Duty.the-variants.{Clean as clean-call, CleanAck as owed-clean-ack, Dirty as dirty-call, DirtyAck as owed-dirty-ack}
 use Rattle.tables.specs.declared.cell.State.{State}
 use Rattle.tables.specs.declared.cell.State.the-variants.{None, Nil, Ok, Ccit, CcitNil}
@@ -61,37 +62,42 @@ met-copy Ccit c = with-duty dirty-call true (in-state CcitNil c)
 met-copy Nil c = c
 met-copy CcitNil c = c
 
--- the state that a clean ack leaves
-abbrev pub clean-acked : State → State
-clean-acked Ccit = None
-clean-acked CcitNil = Nil
-clean-acked None = None
-clean-acked Nil = Nil
-clean-acked Ok = Ok
+-- the receiver's cell once a clean ack has come
+abbrev pub met-clean-ack : State → Cell → Cell
+met-clean-ack Ccit c = in-state None c
+met-clean-ack CcitNil c = in-state Nil c
+met-clean-ack None c = c
+met-clean-ack Nil c = c
+met-clean-ack Ok c = c
+
+-- the tables with a received entry for a copy, due or blocked, and with the receiver's cell
+abbrev pub with-copy : Message → Cell → Bool → Tables → Tables
+with-copy m c due T =
+    with-cell (m .receiver) (m .trace) c (with-received (placed (record { copy = handed m; due = due }) (T .received)) T)
+
+-- the tables with the sender listed, or unlisted, and an ack owed to it
+abbrev pub with-ack-owed : Message → Bool → Duty → Tables → Tables
+with-ack-owed m listed ack T =
+    with-cell (m .sender) (m .trace) (with-duty ack true (with-listed listed (cell-at T (m .sender) (m .trace)))) T
 
 -- the tables after a message of a kind was delivered. A copy adds a received entry, due in ok and else
 -- blocked; a copy ack strikes its sent entry; dirty lists the sender and clean unlists it, and an ack is
--- owed; a dirty ack confirms the receiver and frees all that was blocked; a clean ack ends the clean call
+-- owed; a dirty ack confirms the receiver, and every blocked entry of it becomes due; a clean ack ends the
+-- clean call
 abbrev pub delivered : Tables → Message → Option Kind → Tables
 delivered T m nothing = T
 delivered T m (Some Copy) =
-    let c = cell-at T (m .receiver) (m .trace) in
-    with-received (placed (record { copy = handed m; due = is-ok (c .state) }) (T .received))
-    (with-cell (m .receiver) (m .trace) (met-copy (c .state) c) T)
+    let c = cell-at T (m .receiver) (m .trace) in with-copy m (met-copy (c .state) c) (is-ok (c .state)) T
 delivered T m (Some CopyAck) = with-sent (struck (same-hand-on (acked m)) (T .sent)) T
-delivered T m (Some Dirty) =
-    let c = cell-at T (m .sender) (m .trace) in
-    with-cell (m .sender) (m .trace) (with-duty owed-dirty-ack true (with-listed true c)) T
-delivered T m (Some Clean) =
-    let c = cell-at T (m .sender) (m .trace) in
-    with-cell (m .sender) (m .trace) (with-duty owed-clean-ack true (with-listed false c)) T
+delivered T m (Some Dirty) = with-ack-owed m true owed-dirty-ack T
+delivered T m (Some Clean) = with-ack-owed m false owed-clean-ack T
 delivered T m (Some DirtyAck) =
     let c = cell-at T (m .receiver) (m .trace) in
     with-received (map (freed (m .receiver) (m .trace)) (T .received))
     (with-cell (m .receiver) (m .trace) (in-state Ok c) T)
 delivered T m (Some CleanAck) =
     let c = cell-at T (m .receiver) (m .trace) in
-    with-cell (m .receiver) (m .trace) (in-state (clean-acked (c .state)) c) T
+    with-cell (m .receiver) (m .trace) (met-clean-ack (c .state) c) T
 
 -- deliver an offer: the message is taken
 abbrev pub delivering-offer : Option Message → Tables → Call (Unit {0})

@@ -1,0 +1,161 @@
+// Delivering what the link offers.
+ghost use mathlib.Core.Bool.{false, true};
+ghost use mathlib.Core.Path.{_≡_};
+ghost use Rattle.std.specs.Options.{Cases};
+ghost use Rattle.std.specs.declared.option.Option.the-variants.{Some};
+ghost use Rattle.link.specs.Kinds.{kind-of};
+ghost use Rattle.protocol.specs.Delivery.{acked, delivered, delivering, misplaced, out-of-place, with-ack-owed, with-copy};
+ghost use Rattle.field.specs.Carried.{Carried};
+use crate::Field;
+use crate::modes::Mode;
+use link::interface::Link;
+use link::message::Kind;
+use link::message::Message;
+use protocol::refusal::Refusal;
+use slots::Every;
+use slots::MatchesEvery;
+use tables::cell::Cell;
+use tables::cell::Duty;
+use tables::cell::State;
+use tables::entries::Exactly;
+use tables::entries::HandOn;
+use tables::entries::MatchesExactly;
+use tables::entries::Received;
+use tables::tables::ENTRIES;
+use tables::tables::Tables;
+
+// The hand-on that a copy ack answers.
+fn acked(message: Message) -> HandOn
+    ensures { λ r. ⌜ r ≡ acked message ⌝ }
+{
+    HandOn {
+        packet: message.packet,
+        sender: message.receiver,
+        receiver: message.sender,
+        trace: message.trace,
+    }
+}
+
+// Whether a message of a kind cannot be delivered here.
+fn misplaced(tables: &Tables, message: Message, kind: Kind) -> bool
+    ensures { λ r. ⌜ r ≡ misplaced (now (tables .entry)) message (Some kind) ⌝ }
+{
+    let state = tables.cell(message.receiver, message.trace).state;
+    let owner = tables.trace(message.trace).owner;
+    match (state, kind) {
+        (_, Kind::Copy) => slots::count(&tables.received, &Every) >= ENTRIES,
+        (_, Kind::CopyAck) => slots::count(&tables.sent, &Exactly(acked(message))) == 0,
+        (_, Kind::Dirty | Kind::Clean) => message.receiver != owner,
+        (State::Nil, Kind::DirtyAck) => false,
+        (State::Ccit | State::CcitNil, Kind::CleanAck) => false,
+        (_, Kind::DirtyAck | Kind::CleanAck) => true,
+    }
+}
+
+// The kind of a message that is not out of place.
+fn in_place(tables: &Tables, message: Message) -> Option<Kind>
+    ensures { λ r. ⌜ Cases r (out-of-place (now (tables .entry)) message ≡ true) (λ k. (out-of-place (now (tables .entry)) message ≡ false) × (kind-of (message .kind) ≡ Some k)) ⌝ }
+{
+    if !tables.has_station(message.sender) || !tables.has_station(message.receiver) {
+        return None;
+    }
+    if message.sender == message.receiver || !tables.has_trace(message.trace) {
+        return None;
+    }
+    let kind = Kind::of(message.kind)?;
+    if misplaced(tables, message, kind) {
+        return None;
+    }
+    Some(kind)
+}
+
+// Notes a copy that came, due or blocked, and puts the receiver's cell.
+fn receive(tables: &mut Tables, message: Message, cell: Cell, due: bool)
+    ensures { λ _. ⌜ now (tables .exit) ≡ with-copy message cell due (now (tables .entry)) ⌝ }
+{
+    let copy = HandOn {
+        packet: message.packet,
+        sender: message.sender,
+        receiver: message.receiver,
+        trace: message.trace,
+    };
+    // there is room: that was checked
+    let _ = slots::place(&mut tables.received, Received { copy, due });
+    tables.set_cell(message.receiver, message.trace, cell);
+}
+
+// Lists or unlists the sender, to which an ack is then owed.
+fn list(tables: &mut Tables, message: Message, listed: bool, ack: Duty)
+    ensures { λ _. ⌜ now (tables .exit) ≡ with-ack-owed message listed ack (now (tables .entry)) ⌝ }
+{
+    let cell = tables.cell(message.sender, message.trace);
+    tables.set_cell(
+        message.sender,
+        message.trace,
+        cell.with_listed(listed).with_duty(ack, true),
+    );
+}
+
+// Brings a message into the tables.
+fn bring(tables: &mut Tables, message: Message, kind: Kind)
+    ensures { λ _. ⌜ now (tables .exit) ≡ delivered (now (tables .entry)) message (Some kind) ⌝ }
+{
+    let receiver = message.receiver;
+    let trace = message.trace;
+    let cell = tables.cell(receiver, trace);
+    match (cell.state, kind) {
+        (State::Ok, Kind::Copy) => receive(
+            tables,
+            message,
+            cell.with_duty(Duty::Clean, false),
+            true,
+        ),
+        (State::None, Kind::Copy) => receive(
+            tables,
+            message,
+            cell.in_state(State::Nil).with_duty(Duty::Dirty, true),
+            false,
+        ),
+        (State::Ccit, Kind::Copy) => receive(
+            tables,
+            message,
+            cell.in_state(State::CcitNil).with_duty(Duty::Dirty, true),
+            false,
+        ),
+        (_, Kind::Copy) => receive(tables, message, cell, false),
+        (_, Kind::CopyAck) => {
+            let _ = slots::strike(&mut tables.sent, &Exactly(acked(message)));
+        }
+        (_, Kind::Dirty) => list(tables, message, true, Duty::DirtyAck),
+        (_, Kind::Clean) => list(tables, message, false, Duty::CleanAck),
+        (_, Kind::DirtyAck) => {
+            tables.set_cell(receiver, trace, cell.in_state(State::Ok));
+            tables::entries::free(&mut tables.received, receiver, trace);
+        }
+        (State::Ccit, Kind::CleanAck) => tables.set_cell(
+            receiver,
+            trace,
+            cell.in_state(State::None),
+        ),
+        (State::CcitNil, Kind::CleanAck) => tables.set_cell(
+            receiver,
+            trace,
+            cell.in_state(State::Nil),
+        ),
+        (_, Kind::CleanAck) => tables.set_cell(receiver, trace, cell),
+    }
+}
+
+impl<L: Link, M: Mode> Field<L, M> {
+    // Delivers the offer at a place. What is out of place stays on the link.
+    pub fn deliver(&mut self, place: u32) -> Result<(), Refusal>
+        ensures { λ r. ⌜ Carried (L·Link .meaning) (M·Mode .counted) (delivering place) (now (self .entry)) (now (self .exit)) r ⌝ }
+    {
+        let message = self.link.offer(place).ok_or(Refusal::NoOffer)?;
+        let kind = in_place(&self.tables, message).ok_or(Refusal::OutOfPlace)?;
+        let _ = self.link.take(place);
+        bring(&mut self.tables, message, kind);
+        self.mode.count();
+        Ok(())
+    }
+}
