@@ -13,6 +13,7 @@ mod checks;
 pub mod deliver;
 pub mod house_calls;
 pub mod modes;
+pub mod report;
 pub mod rigging;
 pub mod user_calls;
 
@@ -37,5 +38,21 @@ impl<L: Link> Field<L, Working> {
             link,
             mode: Working,
         }
+    }
+}
+
+impl<L: Link, M: Mode> Field<L, M> {
+    // The tables, to look at.
+    pub fn tables(&self) -> &Tables
+        ensures { λ r. ⌜ now r ≡ now (self .entry) .tables ⌝ }
+    {
+        &self.tables
+    }
+
+    // The link, to ask it what waits and what it offers.
+    pub fn link(&self) -> &L
+        ensures { λ r. ⌜ now r ≡ now (self .entry) .link ⌝ }
+    {
+        &self.link
     }
 }

@@ -1,6 +1,6 @@
 // The calls that users make on a field that works.
 ghost use Rattle.field.specs.Carried.{Carried};
-ghost use Rattle.protocol.specs.UserCalls.{dropping, erasing, giving-back, handing-on, opening, using-it};
+ghost use Rattle.protocol.specs.UserCalls.{dropping, erasing, giving-back, handing-on, opening, making-use};
 use crate::Field;
 use crate::checks::held_unused;
 use crate::checks::known;
@@ -31,7 +31,7 @@ impl<L: Link> Field<L, Working> {
 
     // Takes one more use of a trace at a station.
     pub fn use_trace(&mut self, station: u8, trace: u8) -> Result<(), Refusal>
-        ensures { λ r. ⌜ Carried (L·Link .meaning) (λ m. m) (using-it station trace) (now (self .entry)) (now (self .exit)) r ⌝ }
+        ensures { λ r. ⌜ Carried (L·Link .meaning) (λ m. m) (making-use station trace) (now (self .entry)) (now (self .exit)) r ⌝ }
     {
         known(&self.tables, station, trace)?;
         let cell = self.tables.cell(station, trace);

@@ -28,8 +28,8 @@ opening s T _ = record {
 }
 
 -- use t at s: uses rise by one
-abbrev pub using-it : ℕ → ℕ → Step (Unit {0})
-using-it s t T _ =
+abbrev pub making-use : ℕ → ℕ → Step (Unit {0})
+making-use s t T _ =
     let c = cell-at T s t in
     record {
       checks = known T s t ++ (5 when not (holds c) ∷ 11 when eqb (c .uses) 255 ∷ []);
