@@ -1,12 +1,16 @@
 // A field of stations over any link: rigging, the calls of users and of the house, and the report.
+ghost use lib.ListN.{length};
 ghost use mathlib.Core.List.{[]};
 ghost use mathlib.Core.Path.{_≡_};
-ghost use Rattle.tables.specs.Kept.{rigged};
+ghost use Rattle.std.specs.shelf.Maps.{nth};
+ghost use Rattle.tables.specs.Kept.{cell-at, rigged};
 use crate::modes::Mode;
 use crate::modes::Working;
 use crate::modes::WorkingMode;
 use crate::rigging::Rigging;
 use link::interface::Link;
+use link::message::Message;
+use tables::cell::Cell;
 use tables::tables::Tables;
 
 mod checks;
@@ -42,17 +46,24 @@ impl<L: Link> Field<L, Working> {
 }
 
 impl<L: Link, M: Mode> Field<L, M> {
-    // The tables, to look at.
-    pub fn tables(&self) -> &Tables
-        ensures { λ r. ⌜ now r ≡ now (self .entry) .tables ⌝ }
+    // What the field keeps for a station and a trace; a blank cell outside the tables.
+    pub fn cell(&self, station: u8, trace: u8) -> Cell
+        ensures { λ r. ⌜ r ≡ cell-at (now (self .entry) .tables) station trace ⌝ }
     {
-        &self.tables
+        self.tables.cell(station, trace)
     }
 
-    // The link, to ask it what waits and what it offers.
-    pub fn link(&self) -> &L
-        ensures { λ r. ⌜ now r ≡ now (self .entry) .link ⌝ }
+    // The message that a delivery at a place would take.
+    pub fn offer(&self, place: u32) -> Option<Message>
+        ensures { λ r. ⌜ r ≡ nth (L·Link .meaning (now (self .entry) .link) .offers) place ⌝ }
     {
-        &self.link
+        self.link.offer(place)
+    }
+
+    // How many offers there are.
+    pub fn offers(&self) -> u16
+        ensures { λ r. ⌜ r ≡ length (L·Link .meaning (now (self .entry) .link) .offers) ⌝ }
+    {
+        self.link.offers()
     }
 }

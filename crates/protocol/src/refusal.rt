@@ -88,7 +88,7 @@ impl Refusal {
         ensures { λ r. ⌜ r ≡ fault self .depth ⌝ }
     {
         match self {
-            Refusal::Closed(gate) => Some(gate.depth),
+            Refusal::Closed(closed) => Some(closed.depth),
             _ => None,
         }
     }

@@ -80,8 +80,8 @@ fn find<K, E: Matches<K>>(slots: &[Option<E>], key: &K) -> Option<usize>
 pub fn first<K, E: Matches<K> + Copy>(slots: &[Option<E>], key: &K) -> Option<E>
     ensures { λ r. ⌜ r ≡ first (E·Matches .fits (now (key .entry))) (now (slots .entry)) ⌝ }
 {
-    let at = find(slots, key)?;
-    slots[at]
+    let place = find(slots, key)?;
+    slots[place]
 }
 
 // Takes the first entry that matches `key` out and returns it. The places behind it move up by one, so

@@ -81,8 +81,9 @@ impl Tables {
     pub fn cell(&self, station: u8, trace: u8) -> Cell
         ensures { λ r. ⌜ r ≡ cell-at (now (self .entry)) station trace ⌝ }
     {
-        if usize::from(station) < STATIONS && usize::from(trace) < TRACES {
-            self.cells[usize::from(station)][usize::from(trace)]
+        let (s, t) = (usize::from(station), usize::from(trace));
+        if s < STATIONS && t < TRACES {
+            self.cells[s][t]
         } else {
             Cell::blank()
         }
@@ -92,8 +93,9 @@ impl Tables {
     pub fn set_cell(&mut self, station: u8, trace: u8, cell: Cell)
         ensures { λ _. ⌜ now (self .exit) ≡ with-cell station trace cell (now (self .entry)) ⌝ }
     {
-        if usize::from(station) < STATIONS && usize::from(trace) < TRACES {
-            self.cells[usize::from(station)][usize::from(trace)] = cell;
+        let (row, column) = (usize::from(station), usize::from(trace));
+        if row < STATIONS && column < TRACES {
+            self.cells[row][column] = cell;
         }
     }
 
@@ -101,8 +103,9 @@ impl Tables {
     pub fn trace(&self, trace: u8) -> Trace
         ensures { λ r. ⌜ r ≡ trace-at (now (self .entry)) trace ⌝ }
     {
-        if usize::from(trace) < TRACES {
-            self.traces[usize::from(trace)]
+        let at = usize::from(trace);
+        if at < TRACES {
+            self.traces[at]
         } else {
             UNOPENED
         }
@@ -140,11 +143,8 @@ impl Tables {
     pub fn next_packet(&self, station: u8) -> Option<u32>
         ensures { λ r. ⌜ r ≡ next-packet (now (self .entry)) station ⌝ }
     {
-        if usize::from(station) < STATIONS {
-            self.next[usize::from(station)]
-        } else {
-            None
-        }
+        let at = usize::from(station);
+        if at < STATIONS { self.next[at] } else { None }
     }
 
     // Spends a station's next packet number; 4,294,967,295 is the last.
@@ -178,6 +178,7 @@ impl Tables {
         ensures { λ r. ⌜ r ≡ list-empty (now (self .entry)) trace ⌝ }
     {
         let sender = self.trace(trace).owner;
-        self.listed(trace) == 0 && slots::count(&self.sent, &SentBy { sender, trace }) == 0
+        let copies = slots::count(&self.sent, &SentBy { sender, trace });
+        self.listed(trace) == 0 && copies == 0
     }
 }
