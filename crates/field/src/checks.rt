@@ -2,7 +2,7 @@
 ghost use mathlib.Core.Path.{_≡_};
 ghost use Rattle.protocol.specs.Calls.{first-refusal, told, verdict};
 ghost use Rattle.protocol.specs.Known.{held-unused, known};
-ghost use Rattle.protocol.specs.UserCalls.{may-hand-on, number};
+ghost use Rattle.protocol.specs.UserCalls.{may-drop, may-erase, may-hand-on, number};
 ghost use Rattle.protocol.specs.HouseCalls.{may-send};
 ghost use Rattle.tables.specs.Kept.{cell-at, next-packet};
 use protocol::refusal::Refusal;
@@ -38,6 +38,38 @@ pub(crate) fn held_unused(cell: Cell) -> Result<(), Refusal>
         return Err(Refusal::InUse);
     }
     Ok(())
+}
+
+// All checks of a drop; the answer is the cell.
+pub(crate) fn may_drop(tables: &Tables, station: u8, trace: u8) -> Result<Cell, Refusal>
+    ensures { λ r. ⌜ told r ≡ verdict (first-refusal (may-drop (now (tables .entry)) station trace)) (cell-at (now (tables .entry)) station trace) ⌝ }
+{
+    known(tables, station, trace)?;
+    if station == tables.trace(trace).owner {
+        return Err(Refusal::DropByOwner);
+    }
+    let cell = tables.cell(station, trace);
+    held_unused(cell)?;
+    if tables.copies_out(station, trace) > 0 {
+        return Err(Refusal::CopyOut);
+    }
+    Ok(cell)
+}
+
+// All checks of an erasing; the answer is the cell.
+pub(crate) fn may_erase(tables: &Tables, station: u8, trace: u8) -> Result<Cell, Refusal>
+    ensures { λ r. ⌜ told r ≡ verdict (first-refusal (may-erase (now (tables .entry)) station trace)) (cell-at (now (tables .entry)) station trace) ⌝ }
+{
+    known(tables, station, trace)?;
+    if station != tables.trace(trace).owner {
+        return Err(Refusal::EraseByOther);
+    }
+    let cell = tables.cell(station, trace);
+    held_unused(cell)?;
+    if !tables.list_is_empty(trace) {
+        return Err(Refusal::Listed);
+    }
+    Ok(cell)
 }
 
 // All checks of a hand-on but that of the gate; the answer is the packet number.

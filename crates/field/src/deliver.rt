@@ -4,7 +4,7 @@ ghost use mathlib.Core.Path.{_≡_};
 ghost use Rattle.std.specs.Options.{Cases};
 ghost use Rattle.std.specs.declared.option.Option.the-variants.{Some};
 ghost use Rattle.link.specs.Kinds.{kind-of};
-ghost use Rattle.protocol.specs.Delivery.{acked, delivered, delivering, misplaced, out-of-place, with-ack-owed, with-copy};
+ghost use Rattle.protocol.specs.Delivery.{acked, delivered, delivering, handed, misplaced, out-of-place, with-ack-owed, with-copy};
 ghost use Rattle.field.specs.Carried.{Carried};
 use crate::Field;
 use crate::modes::Mode;
@@ -14,15 +14,27 @@ use link::message::Message;
 use protocol::refusal::Refusal;
 use slots::Every;
 use slots::MatchesEvery;
-use tables::cell::Cell;
 use tables::cell::Duty;
 use tables::cell::State;
 use tables::entries::Exactly;
 use tables::entries::HandOn;
 use tables::entries::MatchesExactly;
 use tables::entries::Received;
+use tables::entries::free;
 use tables::tables::ENTRIES;
 use tables::tables::Tables;
+
+// The hand-on that a copy carries out.
+fn handed(message: Message) -> HandOn
+    ensures { λ r. ⌜ r ≡ handed message ⌝ }
+{
+    HandOn {
+        packet: message.packet,
+        sender: message.sender,
+        receiver: message.receiver,
+        trace: message.trace,
+    }
+}
 
 // The hand-on that a copy ack answers.
 fn acked(message: Message) -> HandOn
@@ -69,60 +81,45 @@ fn in_place(tables: &Tables, message: Message) -> Option<Kind>
     Some(kind)
 }
 
-// Notes a copy that came, due or blocked, and puts the receiver's cell.
-fn receive(tables: &mut Tables, message: Message, cell: Cell, due: bool)
-    ensures { λ _. ⌜ now (tables .exit) ≡ with-copy message cell due (now (tables .entry)) ⌝ }
+// Notes a copy that came, due or blocked.
+fn receive(tables: &mut Tables, message: Message, due: bool)
+    ensures { λ _. ⌜ now (tables .exit) ≡ with-copy message due (now (tables .entry)) ⌝ }
 {
-    let copy = HandOn {
-        packet: message.packet,
-        sender: message.sender,
-        receiver: message.receiver,
-        trace: message.trace,
-    };
+    let copy = handed(message);
     // there is room: that was checked
     let _ = slots::place(&mut tables.received, Received { copy, due });
-    tables.set_cell(message.receiver, message.trace, cell);
 }
 
 // Lists or unlists the sender, to which an ack is then owed.
 fn list(tables: &mut Tables, message: Message, listed: bool, ack: Duty)
     ensures { λ _. ⌜ now (tables .exit) ≡ with-ack-owed message listed ack (now (tables .entry)) ⌝ }
 {
-    let cell = tables.cell(message.sender, message.trace);
-    tables.set_cell(
-        message.sender,
-        message.trace,
-        cell.with_listed(listed).with_duty(ack, true),
-    );
+    let cell = tables
+        .cell(message.sender, message.trace)
+        .with_listed(listed);
+    tables.set_cell(message.sender, message.trace, cell.with_duty(ack, true));
 }
 
 // Brings a message into the tables.
 fn bring(tables: &mut Tables, message: Message, kind: Kind)
     ensures { λ _. ⌜ now (tables .exit) ≡ delivered (now (tables .entry)) message (Some kind) ⌝ }
 {
-    let receiver = message.receiver;
-    let trace = message.trace;
+    let (receiver, trace) = (message.receiver, message.trace);
     let cell = tables.cell(receiver, trace);
     match (cell.state, kind) {
-        (State::Ok, Kind::Copy) => receive(
-            tables,
-            message,
-            cell.with_duty(Duty::Clean, false),
-            true,
-        ),
-        (State::None, Kind::Copy) => receive(
-            tables,
-            message,
-            cell.in_state(State::Nil).with_duty(Duty::Dirty, true),
-            false,
-        ),
-        (State::Ccit, Kind::Copy) => receive(
-            tables,
-            message,
-            cell.in_state(State::CcitNil).with_duty(Duty::Dirty, true),
-            false,
-        ),
-        (_, Kind::Copy) => receive(tables, message, cell, false),
+        (State::Ok, Kind::Copy) => {
+            tables.set_cell(receiver, trace, cell.with_duty(Duty::Clean, false));
+            receive(tables, message, true);
+        }
+        (State::None, Kind::Copy) => {
+            tables.set_cell(receiver, trace, cell.awaiting(State::Nil));
+            receive(tables, message, false);
+        }
+        (State::Ccit, Kind::Copy) => {
+            tables.set_cell(receiver, trace, cell.awaiting(State::CcitNil));
+            receive(tables, message, false);
+        }
+        (_, Kind::Copy) => receive(tables, message, false),
         (_, Kind::CopyAck) => {
             let _ = slots::strike(&mut tables.sent, &Exactly(acked(message)));
         }
@@ -130,19 +127,15 @@ fn bring(tables: &mut Tables, message: Message, kind: Kind)
         (_, Kind::Clean) => list(tables, message, false, Duty::CleanAck),
         (_, Kind::DirtyAck) => {
             tables.set_cell(receiver, trace, cell.in_state(State::Ok));
-            tables::entries::free(&mut tables.received, receiver, trace);
+            free(&mut tables.received, receiver, trace);
         }
-        (State::Ccit, Kind::CleanAck) => tables.set_cell(
-            receiver,
-            trace,
-            cell.in_state(State::None),
-        ),
-        (State::CcitNil, Kind::CleanAck) => tables.set_cell(
-            receiver,
-            trace,
-            cell.in_state(State::Nil),
-        ),
-        (_, Kind::CleanAck) => tables.set_cell(receiver, trace, cell),
+        (State::Ccit, Kind::CleanAck) => {
+            tables.set_cell(receiver, trace, cell.in_state(State::None));
+        }
+        (State::CcitNil, Kind::CleanAck) => {
+            tables.set_cell(receiver, trace, cell.in_state(State::Nil));
+        }
+        (_, Kind::CleanAck) => {}
     }
 }
 

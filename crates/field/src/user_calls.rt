@@ -2,8 +2,9 @@
 ghost use Rattle.field.specs.Carried.{Carried};
 ghost use Rattle.protocol.specs.UserCalls.{dropping, erasing, giving-back, handing-on, opening, making-use};
 use crate::Field;
-use crate::checks::held_unused;
 use crate::checks::known;
+use crate::checks::may_drop;
+use crate::checks::may_erase;
 use crate::checks::may_hand_on;
 use crate::modes::Working;
 use crate::modes::WorkingMode;
@@ -15,8 +16,6 @@ use protocol::refusal::Refusal;
 use tables::cell::Duty;
 use tables::cell::State;
 use tables::entries::HandOn;
-use tables::entries::MatchesSentBy;
-use tables::entries::SentBy;
 
 impl<L: Link> Field<L, Working> {
     // Opens a trace at a station, and answers its number.
@@ -59,8 +58,8 @@ impl<L: Link> Field<L, Working> {
         ensures { λ r. ⌜ Carried (L·Link .meaning) (λ m. m) (handing-on sender receiver trace) (now (self .entry)) (now (self .exit)) r ⌝ }
     {
         let packet = may_hand_on(&self.tables, sender, receiver, trace)?;
-        self.link
-            .post(Message::new(Kind::Copy, sender, receiver, trace, packet))?;
+        let copy = Message::new(Kind::Copy, sender, receiver, trace, packet);
+        self.link.post(copy)?;
         let entry = HandOn {
             packet,
             sender,
@@ -77,25 +76,9 @@ impl<L: Link> Field<L, Working> {
     pub fn drop_trace(&mut self, station: u8, trace: u8) -> Result<(), Refusal>
         ensures { λ r. ⌜ Carried (L·Link .meaning) (λ m. m) (dropping station trace) (now (self .entry)) (now (self .exit)) r ⌝ }
     {
-        known(&self.tables, station, trace)?;
-        if station == self.tables.trace(trace).owner {
-            return Err(Refusal::DropByOwner);
-        }
-        let cell = self.tables.cell(station, trace);
-        held_unused(cell)?;
-        if slots::count(
-            &self.tables.sent,
-            &SentBy {
-                sender: station,
-                trace,
-            },
-        )
-            > 0
-        {
-            return Err(Refusal::CopyOut);
-        }
-        self.tables
-            .set_cell(station, trace, cell.with_duty(Duty::Clean, true));
+        let cell = may_drop(&self.tables, station, trace)?;
+        let cell = cell.with_duty(Duty::Clean, true);
+        self.tables.set_cell(station, trace, cell);
         Ok(())
     }
 
@@ -103,18 +86,10 @@ impl<L: Link> Field<L, Working> {
     pub fn erase(&mut self, station: u8, trace: u8) -> Result<(), Refusal>
         ensures { λ r. ⌜ Carried (L·Link .meaning) (λ m. m) (erasing station trace) (now (self .entry)) (now (self .exit)) r ⌝ }
     {
-        known(&self.tables, station, trace)?;
-        if station != self.tables.trace(trace).owner {
-            return Err(Refusal::EraseByOther);
-        }
-        let cell = self.tables.cell(station, trace);
-        held_unused(cell)?;
-        if !self.tables.list_is_empty(trace) {
-            return Err(Refusal::Listed);
-        }
+        let cell = may_erase(&self.tables, station, trace)?;
         self.tables.erase(trace);
-        self.tables
-            .set_cell(station, trace, cell.in_state(State::None));
+        let cell = cell.in_state(State::None);
+        self.tables.set_cell(station, trace, cell);
         Ok(())
     }
 }

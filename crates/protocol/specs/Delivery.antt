@@ -11,12 +11,12 @@ use Rattle.link.specs.Kinds.{kind-of}
 use Rattle.link.specs.declared.message.Kind.{Kind}
 use Rattle.link.specs.declared.message.Kind.the-variants.{Copy, CopyAck, Dirty, DirtyAck, Clean, CleanAck}
 use Rattle.link.specs.declared.message.Message.{Message}
-use Rattle.tables.specs.Cells.{in-state, is-ccit, is-ccitnil, is-nil, is-ok, with-duty, with-listed}
+use Rattle.tables.specs.Cells.{awaiting, in-state, is-ccit, is-ccitnil, is-nil, with-duty, with-listed}
 use Rattle.tables.specs.Copies.{freed, same-hand-on}
 use Rattle.tables.specs.Kept.{cell-at, trace-at, with-cell, with-received, with-sent}
 use Rattle.tables.specs.declared.cell.Cell.{Cell}
 use Rattle.tables.specs.declared.cell.Duty.{Duty}
-use Rattle.tables.specs.declared.cell.Duty.the-variants.{Clean as clean-call, CleanAck as owed-clean-ack, Dirty as dirty-call, DirtyAck as owed-dirty-ack}
+use Rattle.tables.specs.declared.cell.Duty.the-variants.{Clean as clean-call, CleanAck as owed-clean-ack, DirtyAck as owed-dirty-ack}
 use Rattle.tables.specs.declared.cell.State.{State}
 use Rattle.tables.specs.declared.cell.State.the-variants.{None, Nil, Ok, Ccit, CcitNil}
 use Rattle.tables.specs.declared.entries.HandOn.{HandOn}
@@ -53,51 +53,49 @@ out-of-place T m =
     || (not (is-opened T (m .trace))
     || misplaced T m (kind-of (m .kind)))))
 
--- the receiver's cell once a copy has come: in ok, a clean call duty is struck; in none and ccit the station
--- now awaits the trace and owes a dirty call; a station that awaits it already goes on so
-abbrev pub met-copy : State → Cell → Cell
-met-copy Ok c = with-duty clean-call false c
-met-copy None c = with-duty dirty-call true (in-state Nil c)
-met-copy Ccit c = with-duty dirty-call true (in-state CcitNil c)
-met-copy Nil c = c
-met-copy CcitNil c = c
+-- the tables with another cell at the receiver of a message
+abbrev pub at-receiver : Message → Cell → Tables → Tables
+at-receiver m c T = with-cell (m .receiver) (m .trace) c T
 
--- the receiver's cell once a clean ack has come
-abbrev pub met-clean-ack : State → Cell → Cell
-met-clean-ack Ccit c = in-state None c
-met-clean-ack CcitNil c = in-state Nil c
-met-clean-ack None c = c
-met-clean-ack Nil c = c
-met-clean-ack Ok c = c
+-- the tables with a received entry for a copy, due or else blocked
+abbrev pub with-copy : Message → Bool → Tables → Tables
+with-copy m due T = with-received (placed (record { copy = handed m; due = due }) (T .received)) T
 
--- the tables with a received entry for a copy, due or blocked, and with the receiver's cell
-abbrev pub with-copy : Message → Cell → Bool → Tables → Tables
-with-copy m c due T =
-    with-cell (m .receiver) (m .trace) c (with-received (placed (record { copy = handed m; due = due }) (T .received)) T)
+-- a copy comes, by the receiver's state and cell. In ok an entry is due and a clean call duty is struck; else
+-- the entry is blocked, and in none and ccit the station now awaits the trace
+abbrev pub copy-comes : State → Cell → Message → Tables → Tables
+copy-comes Ok c m T = with-copy m true (at-receiver m (with-duty clean-call false c) T)
+copy-comes None c m T = with-copy m false (at-receiver m (awaiting Nil c) T)
+copy-comes Ccit c m T = with-copy m false (at-receiver m (awaiting CcitNil c) T)
+copy-comes Nil c m T = with-copy m false T
+copy-comes CcitNil c m T = with-copy m false T
+
+-- a clean ack comes: the clean call is over
+abbrev pub clean-ack-comes : State → Cell → Message → Tables → Tables
+clean-ack-comes Ccit c m T = at-receiver m (in-state None c) T
+clean-ack-comes CcitNil c m T = at-receiver m (in-state Nil c) T
+clean-ack-comes None c m T = T
+clean-ack-comes Nil c m T = T
+clean-ack-comes Ok c m T = T
 
 -- the tables with the sender listed, or unlisted, and an ack owed to it
 abbrev pub with-ack-owed : Message → Bool → Duty → Tables → Tables
 with-ack-owed m listed ack T =
     with-cell (m .sender) (m .trace) (with-duty ack true (with-listed listed (cell-at T (m .sender) (m .trace)))) T
 
--- the tables after a message of a kind was delivered. A copy adds a received entry, due in ok and else
--- blocked; a copy ack strikes its sent entry; dirty lists the sender and clean unlists it, and an ack is
--- owed; a dirty ack confirms the receiver, and every blocked entry of it becomes due; a clean ack ends the
--- clean call
+-- the tables after a message of a kind was delivered. A copy ack strikes its sent entry; dirty lists the
+-- sender and clean unlists it, and an ack is owed; a dirty ack confirms the receiver, and every blocked entry
+-- of it becomes due
 abbrev pub delivered : Tables → Message → Option Kind → Tables
 delivered T m nothing = T
-delivered T m (Some Copy) =
-    let c = cell-at T (m .receiver) (m .trace) in with-copy m (met-copy (c .state) c) (is-ok (c .state)) T
+delivered T m (Some Copy) = let c = cell-at T (m .receiver) (m .trace) in copy-comes (c .state) c m T
 delivered T m (Some CopyAck) = with-sent (struck (same-hand-on (acked m)) (T .sent)) T
 delivered T m (Some Dirty) = with-ack-owed m true owed-dirty-ack T
 delivered T m (Some Clean) = with-ack-owed m false owed-clean-ack T
 delivered T m (Some DirtyAck) =
     let c = cell-at T (m .receiver) (m .trace) in
-    with-received (map (freed (m .receiver) (m .trace)) (T .received))
-    (with-cell (m .receiver) (m .trace) (in-state Ok c) T)
-delivered T m (Some CleanAck) =
-    let c = cell-at T (m .receiver) (m .trace) in
-    with-cell (m .receiver) (m .trace) (met-clean-ack (c .state) c) T
+    with-received (map (freed (m .receiver) (m .trace)) (T .received)) (at-receiver m (in-state Ok c) T)
+delivered T m (Some CleanAck) = let c = cell-at T (m .receiver) (m .trace) in clean-ack-comes (c .state) c m T
 
 -- deliver an offer: the message is taken
 abbrev pub delivering-offer : Option Message → Tables → Call (Unit {0})

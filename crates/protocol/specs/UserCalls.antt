@@ -77,32 +77,36 @@ handing-on s d t T link =
       radio = posts (record { kind = kind-number Copy; sender = s; receiver = d; trace = t; packet = k });
     }
 
+-- the checks of a drop
+abbrev pub may-drop : Tables → ℕ → ℕ → List Check
+may-drop T s t =
+    known T s t
+    ++ (6 when eqb s (trace-at T t .owner)
+    ∷ held-unused (cell-at T s t)
+    ++ (10 when ltb 0 (times (sent-by s t) (T .sent)) ∷ []))
+
 -- drop t at s: s gets a clean call duty
 abbrev pub dropping : ℕ → ℕ → Step (Unit {0})
-dropping s t T _ =
-    let c = cell-at T s t in
-    record {
-      checks =
-          known T s t
-          ++ (6 when eqb s (trace-at T t .owner)
-          ∷ held-unused c
-          ++ (10 when ltb 0 (times (sent-by s t) (T .sent)) ∷ []));
-      answer = tt;
-      after = with-cell s t (with-duty Clean true c) T;
-      radio = silent;
-    }
+dropping s t T _ = record {
+  checks = may-drop T s t;
+  answer = tt;
+  after = with-cell s t (with-duty Clean true (cell-at T s t)) T;
+  radio = silent;
+}
+
+-- the checks of an erasing
+abbrev pub may-erase : Tables → ℕ → ℕ → List Check
+may-erase T s t =
+    known T s t
+    ++ (7 when not (eqb s (trace-at T t .owner))
+    ∷ held-unused (cell-at T s t)
+    ++ (9 when not (list-empty T t) ∷ []))
 
 -- erase t at s: t is erased, and s has it no more
 abbrev pub erasing : ℕ → ℕ → Step (Unit {0})
-erasing s t T _ =
-    let c = cell-at T s t in
-    record {
-      checks =
-          known T s t
-          ++ (7 when not (eqb s (trace-at T t .owner))
-          ∷ held-unused c
-          ++ (9 when not (list-empty T t) ∷ []));
-      answer = tt;
-      after = with-cell s t (in-state none c) (with-erased t T);
-      radio = silent;
-    }
+erasing s t T _ = record {
+  checks = may-erase T s t;
+  answer = tt;
+  after = with-cell s t (in-state none (cell-at T s t)) (with-erased t T);
+  radio = silent;
+}

@@ -109,6 +109,10 @@ with-duty DirtyAck b c = record { state = c .state; uses = c .uses; listed = c .
 with-duty Clean b c = record { state = c .state; uses = c .uses; listed = c .listed; dirty = c .dirty; «dirty_ack» = c .«dirty_ack»; clean = b; «clean_ack» = c .«clean_ack» }
 with-duty CleanAck b c = record { state = c .state; uses = c .uses; listed = c .listed; dirty = c .dirty; «dirty_ack» = c .«dirty_ack»; clean = c .clean; «clean_ack» = b }
 
+-- the cell of a station that now awaits the trace, in a state, and owes a dirty call
+abbrev pub awaiting : State → Cell → Cell
+awaiting s c = with-duty Dirty true (in-state s c)
+
 -- one use more; there are at most 255
 abbrev pub used : Cell → Option Cell
 used c = cond (eqb (c .uses) 255) nothing (Some (with-uses (c .uses + 1) c))

@@ -1,6 +1,6 @@
 // What a field keeps for one station and one trace.
 ghost use mathlib.Core.Path.{_≡_};
-ghost use Rattle.tables.specs.Cells.{awaits, blank, given-back, holds, in-state, owes, used, with-duty, with-listed};
+ghost use Rattle.tables.specs.Cells.{awaiting, awaits, blank, given-back, holds, in-state, owes, used, with-duty, with-listed};
 
 // How a station stands to a trace. Nil: a copy came, and the owner has not confirmed it. Ccit: a clean call
 // is in transit, sent and not confirmed. CcitNil: as Ccit, and a copy came since.
@@ -104,6 +104,13 @@ impl Cell {
         ensures { λ r. ⌜ r ≡ in-state state self ⌝ }
     {
         Cell { state, ..self }
+    }
+
+    // The cell of a station that now awaits the trace, in this state, and owes a dirty call.
+    pub fn awaiting(self, state: State) -> Cell
+        ensures { λ r. ⌜ r ≡ awaiting state self ⌝ }
+    {
+        self.in_state(state).with_duty(Duty::Dirty, true)
     }
 
     // The cell with the station listed, or unlisted.

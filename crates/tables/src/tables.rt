@@ -3,6 +3,8 @@ ghost use lib.Dec.{ltb};
 ghost use mathlib.Core.Bool.{cond};
 ghost use mathlib.Core.Path.{_≡_};
 ghost use Rattle.std.specs.declared.option.Option.the-variants.{None, Some};
+ghost use Rattle.slots.specs.Entries.{times};
+ghost use Rattle.tables.specs.Copies.{sent-by};
 ghost use Rattle.tables.specs.Kept.{cell-at, list-empty, listed, next-packet, rigged, trace-at, with-cell, with-erased, with-opened, with-spent};
 use crate::cell::Cell;
 use crate::cell::State;
@@ -173,12 +175,19 @@ impl Tables {
         stations
     }
 
+    // How many sent entries of a trace are from a station.
+    pub fn copies_out(&self, station: u8, trace: u8) -> usize
+        ensures { λ r. ⌜ r ≡ times (sent-by station trace) (now (self .entry) .sent) ⌝ }
+    {
+        let sender = station;
+        slots::count(&self.sent, &SentBy { sender, trace })
+    }
+
     // Whether the owner's list is empty: nobody is listed, and no sent entry is the owner's.
     pub fn list_is_empty(&self, trace: u8) -> bool
         ensures { λ r. ⌜ r ≡ list-empty (now (self .entry)) trace ⌝ }
     {
-        let sender = self.trace(trace).owner;
-        let copies = slots::count(&self.sent, &SentBy { sender, trace });
-        self.listed(trace) == 0 && copies == 0
+        let owner = self.trace(trace).owner;
+        self.listed(trace) == 0 && self.copies_out(owner, trace) == 0
     }
 }

@@ -1,7 +1,5 @@
 use mathlib.Core.List.{[], _∷_}
-use mathlib.Core.Path.{refl, _∙_, ap}
-use Rattle.std.proofs.shelf.Results.{err-from-errBy}
-use Rattle.std.specs.declared.result.Result.the-variants.{Err}
+use mathlib.Core.Path.{refl}
 use Rattle.protocol.specs.Calls.{shut}
 use Rattle.protocol.specs.UserCalls.{handing-on, may-hand-on}
 use Rattle.field.proofs.Carrying.{refused-early}
@@ -9,10 +7,7 @@ use Rattle.field.proofs.user_calls.Field+L+Working.hand_on.Needs as need
 
 pub returns-in-Break-packet : need.returns-in-Break-packet
 returns-in-Break-packet g c =
-    let p = err-from-errBy (c .from-residual .result) (c .from-residual .ensures .1) in
     let a = c .args in
     let field = a .self .now in
-    let gate = g .L·Link .meaning (field .link) .gate (a .sender) in
-    refused-early (g .L·Link .meaning) (λ m. m) (handing-on (a .sender) (a .receiver) (a .trace)) field
-    (may-hand-on (field .tables) (a .sender) (a .receiver) (a .trace)) (shut gate ∷ []) _ _ (c .from-residual .result) refl
-    (c .in-Break-packet .ensures tt) (p .1 ∙ ap Err (p .2))
+    refused-early (g .L·Link .meaning) (λ m. m) (handing-on (a .sender) (a .receiver) (a .trace)) field (may-hand-on (field .tables) (a .sender) (a .receiver) (a .trace))
+    (shut (g .L·Link .meaning (field .link) .gate (a .sender)) ∷ []) _ _ (c .from-residual .result) refl (c .in-Break-packet .ensures tt) (c .from-residual .ensures .1)
