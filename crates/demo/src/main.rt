@@ -1,174 +1,127 @@
-// The radio traffic of one trace's reference, from the gauge that owns the trace to a logger and a relay,
-// over a share of two on a row: posts, a refusal, offers, and packets that overtake each other.
+// A day of one trace on a field of three stations, over a share of two on a row. A gauge opens the trace and
+// records into it, hands it on to a logger, and the logger hands it on to a relay; packets overtake each
+// other; the owner may erase the trace once nobody refers to it any more.
+mod calls;
+mod names;
+
+use calls::Call;
+use calls::carry_out;
 use ends::row::Row;
 use ends::row::RowLink;
-use link::interface::Link;
-use link::message::Kind;
-use link::message::Message;
+use field::Field;
+use field::modes::WorkingMode;
+use field::rigging::Rigging;
 use link::share::Share;
 use link::share::ShareLink;
-use std::fmt;
+use names::GAUGE;
+use names::LOGGER;
+use names::RELAY;
 use std::io;
-
-const GAUGE: u8 = 0;
-
-const LOGGER: u8 = 1;
-
-const RELAY: u8 = 2;
 
 const TRACE: u8 = 0;
 
-// One step of the story.
-#[derive(Clone, Copy)]
-enum Step {
-    Post(Message),
-    Offers,
-    Take(u32),
-}
-
-// A message in words; only copies and their acks have a packet number to show.
-#[derive(Clone, Copy)]
-struct Shown(Message);
-
-impl fmt::Display for Shown as ShownDisplay {
-    fn fmt<W: fmt::Write>(&self, f: &mut fmt::Formatter<W>) -> fmt::Result {
-        let Shown(message) = *self;
-        let kind = kind_name(message.kind);
-        let packet = message.packet;
-        let trace = message.trace;
-        let sender = station_name(message.sender);
-        let receiver = station_name(message.receiver);
-        write!(f, "{kind} ")?;
-        if matches!(Kind::of(message.kind), Some(Kind::Copy | Kind::CopyAck)) {
-            write!(f, "{packet} ")?;
-        }
-        write!(f, "of trace {trace} from {sender} to {receiver}")
-    }
-}
-
-fn station_name(station: u8) -> &'static str {
-    match station {
-        GAUGE => "gauge",
-        LOGGER => "logger",
-        RELAY => "relay",
-        _ => "stranger",
-    }
-}
-
-fn kind_name(number: u8) -> &'static str {
-    match Kind::of(number) {
-        Some(Kind::Copy) => "copy",
-        Some(Kind::CopyAck) => "copy ack",
-        Some(Kind::Dirty) => "dirty",
-        Some(Kind::DirtyAck) => "dirty ack",
-        Some(Kind::Clean) => "clean",
-        Some(Kind::CleanAck) => "clean ack",
-        None => "unknown kind",
-    }
-}
-
-fn post<L: Link>(rt: &LibcRuntime, link: &mut L, message: Message) -> io::Result<()> {
-    let shown = Shown(message);
-    match link.post(message) {
-        Ok(()) => println!(rt, "post {shown}: waits"),
-        Err(closed) => {
-            let depth = closed.depth;
-            println!(rt, "post {shown}: refused, gate closed at depth {depth}")
-        }
-    }
-}
-
-fn take<L: Link>(rt: &LibcRuntime, link: &mut L, place: u32) -> io::Result<()> {
-    match link.take(place) {
-        Some(message) => {
-            let shown = Shown(message);
-            println!(rt, "take {place}: {shown}")
-        }
-        None => println!(rt, "take {place}: no such offer"),
-    }
-}
-
-fn list_offers<L: Link>(rt: &LibcRuntime, link: &L) -> io::Result<()> {
-    let waiting = link.waiting();
-    let count = link.offers();
-    println!(rt, "{waiting} waiting, {count} on offer")?;
-    for place in 0..u32::from(count) {
-        if let Some(message) = link.offer(place) {
-            let shown = Shown(message);
-            println!(rt, "  {place}: {shown}")?;
-        }
-    }
-    Ok(())
-}
-
-fn run<L: Link>(rt: &LibcRuntime, link: &mut L, step: Step) -> io::Result<()> {
-    match step {
-        Step::Post(message) => post(rt, link, message),
-        Step::Offers => list_offers(rt, link),
-        Step::Take(place) => take(rt, link, place),
-    }
-}
-
-// The gauge hands the reference on, twice to the logger; the relay's copy overtakes the logger's first,
-// and the logger's second waits behind it.
-fn hand_on() -> [Step; 8] {
-    let third = Step::Post(Message::new(Kind::Copy, GAUGE, LOGGER, TRACE, 102));
+// The gauge opens a trace and hands it on to the logger, as far as its share of the link lets it.
+fn hand_on() -> [Call; 9] {
+    let to_logger = Call::HandOn(GAUGE, LOGGER, TRACE);
     [
-        Step::Post(Message::new(Kind::Copy, GAUGE, LOGGER, TRACE, 100)),
-        Step::Post(Message::new(Kind::Copy, GAUGE, RELAY, TRACE, 101)),
-        third,
-        Step::Offers,
-        Step::Take(1),
-        third,
-        Step::Offers,
-        Step::Take(0),
-    ]
-}
-
-// Both receivers ask to be listed; the gauge confirms the relay first, and has to wait with the logger.
-fn confirm() -> [Step; 10] {
-    let to_logger = Step::Post(Message::new(Kind::DirtyAck, GAUGE, LOGGER, TRACE, 0));
-    [
-        Step::Post(Message::new(Kind::Dirty, LOGGER, GAUGE, TRACE, 0)),
-        Step::Post(Message::new(Kind::Dirty, RELAY, GAUGE, TRACE, 0)),
-        Step::Offers,
-        Step::Take(2),
-        Step::Post(Message::new(Kind::DirtyAck, GAUGE, RELAY, TRACE, 0)),
-        Step::Take(1),
+        Call::Open(GAUGE),
+        Call::Use(GAUGE, TRACE),
+        Call::Use(LOGGER, TRACE),
         to_logger,
-        Step::Take(1),
         to_logger,
-        Step::Offers,
+        to_logger,
+        Call::Erase(GAUGE, TRACE),
+        Call::GiveBack(GAUGE, TRACE),
+        Call::Erase(GAUGE, TRACE),
     ]
 }
 
-// Every copy that was confirmed is acknowledged, until nothing waits.
-fn acknowledge() -> [Step; 11] {
+// Two copies reach the logger; the owner lists it, and its ack makes both copies due.
+fn list_logger() -> [Call; 7] {
     [
-        Step::Post(Message::new(Kind::CopyAck, RELAY, GAUGE, TRACE, 101)),
-        Step::Take(0),
-        Step::Take(0),
-        Step::Post(Message::new(Kind::CopyAck, LOGGER, GAUGE, TRACE, 100)),
-        Step::Post(Message::new(Kind::CopyAck, LOGGER, GAUGE, TRACE, 102)),
-        Step::Offers,
-        Step::Take(1),
-        Step::Take(0),
-        Step::Take(0),
-        Step::Take(0),
-        Step::Offers,
+        Call::Report,
+        Call::Deliver(0),
+        Call::Deliver(0),
+        Call::Dirty(LOGGER, TRACE),
+        Call::Deliver(0),
+        Call::DirtyAck(LOGGER, TRACE),
+        Call::Deliver(0),
     ]
 }
 
-fn run_all<L: Link>(rt: &LibcRuntime, link: &mut L, steps: &[Step]) -> io::Result<()> {
-    for step in steps {
-        run(rt, link, *step)?;
-    }
-    Ok(())
+// The logger hands the trace on to the relay. Its first copy ack overtakes that copy, its second finds the
+// gate closed.
+fn overtake() -> [Call; 9] {
+    [
+        Call::HandOn(LOGGER, RELAY, TRACE),
+        Call::CopyAck(LOGGER, GAUGE, 100),
+        Call::CopyAck(LOGGER, GAUGE, 101),
+        Call::Drop(LOGGER, TRACE),
+        Call::Deliver(1),
+        Call::CopyAck(LOGGER, GAUGE, 101),
+        Call::Deliver(1),
+        Call::Erase(GAUGE, TRACE),
+        Call::Report,
+    ]
+}
+
+// The relay is listed and acknowledges; only then may the logger drop the trace.
+fn list_relay() -> [Call; 9] {
+    [
+        Call::Deliver(0),
+        Call::Dirty(RELAY, TRACE),
+        Call::Deliver(0),
+        Call::DirtyAck(RELAY, TRACE),
+        Call::Deliver(0),
+        Call::CopyAck(RELAY, LOGGER, 100),
+        Call::Drop(LOGGER, TRACE),
+        Call::Deliver(0),
+        Call::Drop(LOGGER, TRACE),
+    ]
+}
+
+// Both drop it; the owner unlists them, one after the other.
+fn clean() -> [Call; 10] {
+    [
+        Call::Report,
+        Call::Clean(LOGGER, TRACE),
+        Call::Drop(RELAY, TRACE),
+        Call::Clean(RELAY, TRACE),
+        Call::Deliver(1),
+        Call::Erase(GAUGE, TRACE),
+        Call::Deliver(0),
+        Call::Report,
+        Call::Erase(GAUGE, TRACE),
+        Call::Erase(GAUGE, TRACE),
+    ]
+}
+
+// The last acks are still on their way when the trace is gone.
+fn end() -> [Call; 6] {
+    [
+        Call::CleanAck(LOGGER, TRACE),
+        Call::CleanAck(RELAY, TRACE),
+        Call::Deliver(0),
+        Call::Deliver(0),
+        Call::Deliver(0),
+        Call::Report,
+    ]
 }
 
 fn main(rt: LibcRuntime) -> io::Result<()> {
-    let mut link = Share::new(Row::new(), 2);
-    run_all(&rt, &mut link, &hand_on())?;
-    run_all(&rt, &mut link, &confirm())?;
-    run_all(&rt, &mut link, &acknowledge())
+    match Rigging::new(3, 100) {
+        Ok(rigging) => {
+            let mut field = Field::new(rigging, Share::new(Row::new(), 2));
+            carry_out(&rt, &mut field, &hand_on())?;
+            carry_out(&rt, &mut field, &list_logger())?;
+            carry_out(&rt, &mut field, &overtake())?;
+            carry_out(&rt, &mut field, &list_relay())?;
+            carry_out(&rt, &mut field, &clean())?;
+            carry_out(&rt, &mut field, &end())
+        }
+        Err(refusal) => {
+            let number = refusal.number();
+            println!(rt, "rig: refused {number}")
+        }
+    }
 }

@@ -1,45 +1,23 @@
-// The sendings that the house makes for the stations, in a field of any mode.
-ghost use mathlib.Core.Path.{_≡_};
-ghost use Rattle.link.specs.Kinds.{kind-number};
-ghost use Rattle.protocol.specs.HouseCalls.{done, kind-due, receiver-of, sender-of, sending, sending-copy-ack};
+// The calls that the house makes for the stations, sendings and deliveries, in a field of any mode.
+ghost use Rattle.protocol.specs.Delivery.{delivering};
+ghost use Rattle.protocol.specs.HouseCalls.{sending, sending-copy-ack};
 ghost use Rattle.tables.specs.declared.cell.Duty.the-variants.{Clean, CleanAck, Dirty, DirtyAck};
 ghost use Rattle.field.specs.Carried.{Carried};
 use crate::Field;
-use crate::checks::may_send;
 use crate::modes::Mode;
 use link::interface::Link;
 use link::message::Kind;
 use link::message::Message;
 use protocol::refusal::ClosedRefusal;
 use protocol::refusal::Refusal;
-use tables::cell::Cell;
+use rules::checks::may_send;
+use rules::delivery::bring;
+use rules::delivery::in_place;
+use rules::duties::done;
+use rules::duties::message_due;
 use tables::cell::Duty;
-use tables::cell::State;
 use tables::entries::DueFrom;
 use tables::entries::MatchesDueFrom;
-
-// The message that a duty of a station and a trace asks for.
-fn message_due(duty: Duty, station: u8, owner: u8, trace: u8) -> Message
-    ensures { λ r. ⌜ r ≡ record { kind = kind-number (kind-due duty); sender = sender-of duty station owner; receiver = receiver-of duty station owner; trace = trace; packet = 0 } ⌝ }
-{
-    match duty {
-        Duty::Dirty => Message::new(Kind::Dirty, station, owner, trace, 0),
-        Duty::DirtyAck => Message::new(Kind::DirtyAck, owner, station, trace, 0),
-        Duty::Clean => Message::new(Kind::Clean, station, owner, trace, 0),
-        Duty::CleanAck => Message::new(Kind::CleanAck, owner, station, trace, 0),
-    }
-}
-
-// The cell once the duty is done: a clean call leaves the state ccit.
-fn done(duty: Duty, cell: Cell) -> Cell
-    ensures { λ r. ⌜ r ≡ done duty cell ⌝ }
-{
-    let cell = cell.with_duty(duty, false);
-    match duty {
-        Duty::Clean => cell.in_state(State::Ccit),
-        _ => cell,
-    }
-}
 
 impl<L: Link, M: Mode> Field<L, M> {
     // Does a duty of a station and a trace.
@@ -98,6 +76,18 @@ impl<L: Link, M: Mode> Field<L, M> {
         self.link
             .post(Message::new(Kind::CopyAck, station, sender, entry.copy.trace, packet))?;
         let _ = slots::strike(&mut self.tables.received, &key);
+        self.mode.count();
+        Ok(())
+    }
+
+    // Delivers the offer at a place. What is out of place stays on the link.
+    pub fn deliver(&mut self, place: u32) -> Result<(), Refusal>
+        ensures { λ r. ⌜ Carried (L·Link .meaning) (M·Mode .counted) (delivering place) (now (self .entry)) (now (self .exit)) r ⌝ }
+    {
+        let message = self.link.offer(place).ok_or(Refusal::NoOffer)?;
+        let kind = in_place(&self.tables, message).ok_or(Refusal::OutOfPlace)?;
+        let _ = self.link.take(place);
+        bring(&mut self.tables, message, kind);
         self.mode.count();
         Ok(())
     }

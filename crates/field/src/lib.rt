@@ -13,8 +13,6 @@ use link::message::Message;
 use tables::cell::Cell;
 use tables::tables::Tables;
 
-mod checks;
-pub mod deliver;
 pub mod house_calls;
 pub mod modes;
 pub mod report;

@@ -2,10 +2,6 @@
 ghost use Rattle.field.specs.Carried.{Carried};
 ghost use Rattle.protocol.specs.UserCalls.{dropping, erasing, giving-back, handing-on, opening, making-use};
 use crate::Field;
-use crate::checks::known;
-use crate::checks::may_drop;
-use crate::checks::may_erase;
-use crate::checks::may_hand_on;
 use crate::modes::Working;
 use crate::modes::WorkingMode;
 use link::interface::Link;
@@ -13,6 +9,11 @@ use link::message::Kind;
 use link::message::Message;
 use protocol::refusal::ClosedRefusal;
 use protocol::refusal::Refusal;
+use rules::checks::may_drop;
+use rules::checks::may_erase;
+use rules::checks::may_give_back;
+use rules::checks::may_hand_on;
+use rules::checks::may_use;
 use tables::cell::Duty;
 use tables::cell::State;
 use tables::entries::HandOn;
@@ -32,12 +33,7 @@ impl<L: Link> Field<L, Working> {
     pub fn use_trace(&mut self, station: u8, trace: u8) -> Result<(), Refusal>
         ensures { λ r. ⌜ Carried (L·Link .meaning) (λ m. m) (making-use station trace) (now (self .entry)) (now (self .exit)) r ⌝ }
     {
-        known(&self.tables, station, trace)?;
-        let cell = self.tables.cell(station, trace);
-        if !cell.holds() {
-            return Err(Refusal::NotHeld);
-        }
-        let cell = cell.used().ok_or(Refusal::UsesSpent)?;
+        let cell = may_use(&self.tables, station, trace)?;
         self.tables.set_cell(station, trace, cell);
         Ok(())
     }
@@ -46,9 +42,7 @@ impl<L: Link> Field<L, Working> {
     pub fn give_back(&mut self, station: u8, trace: u8) -> Result<(), Refusal>
         ensures { λ r. ⌜ Carried (L·Link .meaning) (λ m. m) (giving-back station trace) (now (self .entry)) (now (self .exit)) r ⌝ }
     {
-        known(&self.tables, station, trace)?;
-        let cell = self.tables.cell(station, trace);
-        let cell = cell.given_back().ok_or(Refusal::NoUse)?;
+        let cell = may_give_back(&self.tables, station, trace)?;
         self.tables.set_cell(station, trace, cell);
         Ok(())
     }

@@ -1,5 +1,5 @@
 -- The steps of the calls that a user makes.
-use Prim.Native.Nat.{ℕ, _+_, _-_}
+use Prim.Native.Nat.{ℕ}
 use lib.Dec.{eqb, ltb}
 use mathlib.Core.Bool.{Bool, true, not, _&&_}
 use mathlib.Core.List.{List, [], _∷_, _++_}
@@ -9,7 +9,7 @@ use Rattle.std.specs.declared.option.Option.the-variants.{None, Some}
 use Rattle.slots.specs.Entries.{placed, times}
 use Rattle.link.specs.Kinds.{kind-number}
 use Rattle.link.specs.declared.message.Kind.the-variants.{Copy}
-use Rattle.tables.specs.Cells.{holds, in-state, with-duty, with-uses}
+use Rattle.tables.specs.Cells.{holds, in-state, one-less, one-more, with-duty}
 use Rattle.tables.specs.Copies.{sent-by}
 use Rattle.tables.specs.Kept.{cell-at, list-empty, next-packet, trace-at, with-cell, with-erased, with-opened, with-sent, with-spent}
 use Rattle.tables.specs.declared.cell.Duty.the-variants.{Clean}
@@ -27,27 +27,31 @@ opening s T _ = record {
   radio = silent;
 }
 
+-- the checks of a use
+abbrev pub may-use : Tables → ℕ → ℕ → List Check
+may-use T s t = let c = cell-at T s t in known T s t ++ (5 when not (holds c) ∷ 11 when eqb (c .uses) 255 ∷ [])
+
 -- use t at s: uses rise by one
 abbrev pub making-use : ℕ → ℕ → Step (Unit {0})
-making-use s t T _ =
-    let c = cell-at T s t in
-    record {
-      checks = known T s t ++ (5 when not (holds c) ∷ 11 when eqb (c .uses) 255 ∷ []);
-      answer = tt;
-      after = with-cell s t (with-uses (c .uses + 1) c) T;
-      radio = silent;
-    }
+making-use s t T _ = record {
+  checks = may-use T s t;
+  answer = tt;
+  after = with-cell s t (one-more (cell-at T s t)) T;
+  radio = silent;
+}
+
+-- the checks of a give-back
+abbrev pub may-give-back : Tables → ℕ → ℕ → List Check
+may-give-back T s t = known T s t ++ (12 when eqb (cell-at T s t .uses) 0 ∷ [])
 
 -- give back a use of t at s: uses fall by one
 abbrev pub giving-back : ℕ → ℕ → Step (Unit {0})
-giving-back s t T _ =
-    let c = cell-at T s t in
-    record {
-      checks = known T s t ++ (12 when eqb (c .uses) 0 ∷ []);
-      answer = tt;
-      after = with-cell s t (with-uses (c .uses - 1) c) T;
-      radio = silent;
-    }
+giving-back s t T _ = record {
+  checks = may-give-back T s t;
+  answer = tt;
+  after = with-cell s t (one-less (cell-at T s t)) T;
+  radio = silent;
+}
 
 -- the number, where there is one
 abbrev pub number : Option ℕ → ℕ

@@ -113,10 +113,17 @@ with-duty CleanAck b c = record { state = c .state; uses = c .uses; listed = c .
 abbrev pub awaiting : State → Cell → Cell
 awaiting s c = with-duty Dirty true (in-state s c)
 
--- one use more; there are at most 255
-abbrev pub used : Cell → Option Cell
-used c = cond (eqb (c .uses) 255) nothing (Some (with-uses (c .uses + 1) c))
+-- one use more, and one use less
+abbrev pub one-more : Cell → Cell
+one-more c = with-uses (c .uses + 1) c
 
--- one use less
+abbrev pub one-less : Cell → Cell
+one-less c = with-uses (c .uses - 1) c
+
+-- one use more, where there are not 255
+abbrev pub used : Cell → Option Cell
+used c = cond (eqb (c .uses) 255) nothing (Some (one-more c))
+
+-- one use less, where there is one
 abbrev pub given-back : Cell → Option Cell
-given-back c = cond (eqb (c .uses) 0) nothing (Some (with-uses (c .uses - 1) c))
+given-back c = cond (eqb (c .uses) 0) nothing (Some (one-less c))

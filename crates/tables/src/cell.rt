@@ -15,7 +15,7 @@ pub enum State {
 
 // A message that is still to be sent: the calls by the station to the owner, the acks by the owner to the
 // station.
-#[derive(Clone, Copy, PartialEq, Eq, Debug)]
+#[derive(Clone, Copy)]
 pub enum Duty {
     Dirty,
     DirtyAck,
@@ -24,7 +24,7 @@ pub enum Duty {
 }
 
 // One station and one trace.
-#[derive(Clone, Copy, PartialEq, Eq, Debug)]
+#[derive(Clone, Copy)]
 pub struct Cell {
     pub state: State,
     pub uses: u8,

@@ -6,7 +6,7 @@ use slots::Matches;
 
 // One hand-on: the sender passed a reference to the trace on to the receiver, in the copy with this packet
 // number. A sent entry is one of these.
-#[derive(Clone, Copy, PartialEq, Eq, Debug)]
+#[derive(Clone, Copy)]
 pub struct HandOn {
     pub packet: u32,
     pub sender: u8,
@@ -15,7 +15,7 @@ pub struct HandOn {
 }
 
 // A copy that came. It is due for its copy ack, or else blocked until the owner has confirmed the receiver.
-#[derive(Clone, Copy, PartialEq, Eq, Debug)]
+#[derive(Clone, Copy)]
 pub struct Received {
     pub copy: HandOn,
     pub due: bool,

@@ -21,7 +21,7 @@ pub const TRACES: usize = 32;
 pub const ENTRIES: usize = 64;
 
 // A trace that was opened: the station in whose memory it lies, and whether it was erased.
-#[derive(Clone, Copy, PartialEq, Eq, Debug)]
+#[derive(Clone, Copy)]
 pub struct Trace {
     pub owner: u8,
     pub erased: bool,

@@ -1,9 +1,10 @@
-// Checks that several calls make.
+// The checks of the calls, in their order, but for the gates of the link.
 ghost use mathlib.Core.Path.{_≡_};
 ghost use Rattle.protocol.specs.Calls.{first-refusal, told, verdict};
 ghost use Rattle.protocol.specs.Known.{held-unused, known};
-ghost use Rattle.protocol.specs.UserCalls.{may-drop, may-erase, may-hand-on, number};
+ghost use Rattle.protocol.specs.UserCalls.{may-drop, may-erase, may-give-back, may-hand-on, may-use, number};
 ghost use Rattle.protocol.specs.HouseCalls.{may-send};
+ghost use Rattle.tables.specs.Cells.{one-less, one-more};
 ghost use Rattle.tables.specs.Kept.{cell-at, next-packet};
 use protocol::refusal::Refusal;
 use slots::Every;
@@ -15,7 +16,7 @@ use tables::tables::ENTRIES;
 use tables::tables::Tables;
 
 // The station is in the field, and the trace was opened.
-pub(crate) fn known(tables: &Tables, station: u8, trace: u8) -> Result<(), Refusal>
+fn known(tables: &Tables, station: u8, trace: u8) -> Result<(), Refusal>
     ensures { λ r. ⌜ told r ≡ verdict (first-refusal (known (now (tables .entry)) station trace)) tt ⌝ }
 {
     if !tables.has_station(station) {
@@ -28,7 +29,7 @@ pub(crate) fn known(tables: &Tables, station: u8, trace: u8) -> Result<(), Refus
 }
 
 // The station of the cell holds the trace and has no use of it.
-pub(crate) fn held_unused(cell: Cell) -> Result<(), Refusal>
+fn held_unused(cell: Cell) -> Result<(), Refusal>
     ensures { λ r. ⌜ told r ≡ verdict (first-refusal (held-unused cell)) tt ⌝ }
 {
     if !cell.holds() {
@@ -40,8 +41,31 @@ pub(crate) fn held_unused(cell: Cell) -> Result<(), Refusal>
     Ok(())
 }
 
+// All checks of a use; the answer is the cell with it.
+pub fn may_use(tables: &Tables, station: u8, trace: u8) -> Result<Cell, Refusal>
+    ensures { λ r. ⌜ told r ≡ verdict (first-refusal (may-use (now (tables .entry)) station trace)) (one-more (cell-at (now (tables .entry)) station trace)) ⌝ }
+{
+    known(tables, station, trace)?;
+    let cell = tables.cell(station, trace);
+    if !cell.holds() {
+        return Err(Refusal::NotHeld);
+    }
+    cell.used().ok_or(Refusal::UsesSpent)
+}
+
+// All checks of a give-back; the answer is the cell without the use.
+pub fn may_give_back(tables: &Tables, station: u8, trace: u8) -> Result<Cell, Refusal>
+    ensures { λ r. ⌜ told r ≡ verdict (first-refusal (may-give-back (now (tables .entry)) station trace)) (one-less (cell-at (now (tables .entry)) station trace)) ⌝ }
+{
+    known(tables, station, trace)?;
+    tables
+        .cell(station, trace)
+        .given_back()
+        .ok_or(Refusal::NoUse)
+}
+
 // All checks of a drop; the answer is the cell.
-pub(crate) fn may_drop(tables: &Tables, station: u8, trace: u8) -> Result<Cell, Refusal>
+pub fn may_drop(tables: &Tables, station: u8, trace: u8) -> Result<Cell, Refusal>
     ensures { λ r. ⌜ told r ≡ verdict (first-refusal (may-drop (now (tables .entry)) station trace)) (cell-at (now (tables .entry)) station trace) ⌝ }
 {
     known(tables, station, trace)?;
@@ -57,7 +81,7 @@ pub(crate) fn may_drop(tables: &Tables, station: u8, trace: u8) -> Result<Cell, 
 }
 
 // All checks of an erasing; the answer is the cell.
-pub(crate) fn may_erase(tables: &Tables, station: u8, trace: u8) -> Result<Cell, Refusal>
+pub fn may_erase(tables: &Tables, station: u8, trace: u8) -> Result<Cell, Refusal>
     ensures { λ r. ⌜ told r ≡ verdict (first-refusal (may-erase (now (tables .entry)) station trace)) (cell-at (now (tables .entry)) station trace) ⌝ }
 {
     known(tables, station, trace)?;
@@ -73,12 +97,7 @@ pub(crate) fn may_erase(tables: &Tables, station: u8, trace: u8) -> Result<Cell,
 }
 
 // All checks of a hand-on but that of the gate; the answer is the packet number.
-pub(crate) fn may_hand_on(
-    tables: &Tables,
-    sender: u8,
-    receiver: u8,
-    trace: u8,
-) -> Result<u32, Refusal>
+pub fn may_hand_on(tables: &Tables, sender: u8, receiver: u8, trace: u8) -> Result<u32, Refusal>
     ensures { λ r. ⌜ told r ≡ verdict (first-refusal (may-hand-on (now (tables .entry)) sender receiver trace)) (number (next-packet (now (tables .entry)) sender)) ⌝ }
 {
     if !tables.has_station(sender) || !tables.has_station(receiver) {
@@ -100,7 +119,7 @@ pub(crate) fn may_hand_on(
 }
 
 // All checks of the sending of a duty but that of the gate; the answer is the cell of the duty.
-pub(crate) fn may_send(tables: &Tables, duty: Duty, station: u8, trace: u8) -> Result<Cell, Refusal>
+pub fn may_send(tables: &Tables, duty: Duty, station: u8, trace: u8) -> Result<Cell, Refusal>
     ensures { λ r. ⌜ told r ≡ verdict (first-refusal (may-send duty (now (tables .entry)) station trace)) (cell-at (now (tables .entry)) station trace) ⌝ }
 {
     known(tables, station, trace)?;

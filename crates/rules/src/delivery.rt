@@ -1,17 +1,12 @@
-// Delivering what the link offers.
+// Deliveries, as far as the tables go: which messages are out of place, and what the others change.
 ghost use mathlib.Core.Bool.{false, true};
 ghost use mathlib.Core.Path.{_≡_};
 ghost use Rattle.std.specs.Options.{Cases};
 ghost use Rattle.std.specs.declared.option.Option.the-variants.{Some};
 ghost use Rattle.link.specs.Kinds.{kind-of};
-ghost use Rattle.protocol.specs.Delivery.{acked, delivered, delivering, handed, misplaced, out-of-place, with-ack-owed, with-copy};
-ghost use Rattle.field.specs.Carried.{Carried};
-use crate::Field;
-use crate::modes::Mode;
-use link::interface::Link;
+ghost use Rattle.protocol.specs.Delivery.{acked, delivered, handed, misplaced, out-of-place, with-ack-owed, with-copy};
 use link::message::Kind;
 use link::message::Message;
-use protocol::refusal::Refusal;
 use slots::Every;
 use slots::MatchesEvery;
 use tables::cell::Duty;
@@ -64,8 +59,8 @@ fn misplaced(tables: &Tables, message: Message, kind: Kind) -> bool
     }
 }
 
-// The kind of a message that is not out of place.
-fn in_place(tables: &Tables, message: Message) -> Option<Kind>
+// The kind of a message that is not out of place; none for one that is.
+pub fn in_place(tables: &Tables, message: Message) -> Option<Kind>
     ensures { λ r. ⌜ Cases r (out-of-place (now (tables .entry)) message ≡ true) (λ k. (out-of-place (now (tables .entry)) message ≡ false) × (kind-of (message .kind) ≡ Some k)) ⌝ }
 {
     if !tables.has_station(message.sender) || !tables.has_station(message.receiver) {
@@ -100,8 +95,8 @@ fn list(tables: &mut Tables, message: Message, listed: bool, ack: Duty)
     tables.set_cell(message.sender, message.trace, cell.with_duty(ack, true));
 }
 
-// Brings a message into the tables.
-fn bring(tables: &mut Tables, message: Message, kind: Kind)
+// Brings a message of a kind into the tables.
+pub fn bring(tables: &mut Tables, message: Message, kind: Kind)
     ensures { λ _. ⌜ now (tables .exit) ≡ delivered (now (tables .entry)) message (Some kind) ⌝ }
 {
     let (receiver, trace) = (message.receiver, message.trace);
@@ -136,19 +131,5 @@ fn bring(tables: &mut Tables, message: Message, kind: Kind)
             tables.set_cell(receiver, trace, cell.in_state(State::Nil));
         }
         (_, Kind::CleanAck) => {}
-    }
-}
-
-impl<L: Link, M: Mode> Field<L, M> {
-    // Delivers the offer at a place. What is out of place stays on the link.
-    pub fn deliver(&mut self, place: u32) -> Result<(), Refusal>
-        ensures { λ r. ⌜ Carried (L·Link .meaning) (M·Mode .counted) (delivering place) (now (self .entry)) (now (self .exit)) r ⌝ }
-    {
-        let message = self.link.offer(place).ok_or(Refusal::NoOffer)?;
-        let kind = in_place(&self.tables, message).ok_or(Refusal::OutOfPlace)?;
-        let _ = self.link.take(place);
-        bring(&mut self.tables, message, kind);
-        self.mode.count();
-        Ok(())
     }
 }
