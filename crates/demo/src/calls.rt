@@ -6,10 +6,10 @@ use crate::names::word_name;
 use field::Field;
 use field::modes::Working;
 use field::modes::WorkingMode;
-use field::report::Row;
-use field::report::Word;
 use link::interface::Link;
 use protocol::refusal::Refusal;
+use protocol::report::Row;
+use protocol::report::Word;
 use std::fmt;
 use std::io;
 
@@ -31,49 +31,60 @@ pub enum Call {
     Report,
 }
 
-fn show_user_call<W: fmt::Write>(call: Call, f: &mut fmt::Formatter<W>) -> fmt::Result {
+// A call on a station and a trace, with its words.
+fn in_words(call: Call) -> (u8, &'static str, u8) {
     match call {
-        Call::Open(s) => write!(f, "{} opens a trace", station_name(s)),
-        Call::Use(s, t) => write!(f, "{} uses trace {t}", station_name(s)),
-        Call::GiveBack(s, t) => write!(f, "{} gives back a use of trace {t}", station_name(s)),
-        Call::HandOn(s, d, t) => write!(
-            f,
-            "{} hands trace {t} on to {}",
-            station_name(s),
-            station_name(d)
-        ),
-        Call::Drop(s, t) => write!(f, "{} drops trace {t}", station_name(s)),
-        Call::Erase(s, t) => write!(f, "{} erases trace {t}", station_name(s)),
-        _ => Ok(()),
+        Call::Use(s, t) => (s, "uses", t),
+        Call::GiveBack(s, t) => (s, "gives back a use of", t),
+        Call::Drop(s, t) => (s, "drops", t),
+        Call::Erase(s, t) => (s, "erases", t),
+        Call::Dirty(s, t) => (s, "sends dirty for", t),
+        Call::DirtyAck(s, t) => (s, "is sent dirty ack for", t),
+        Call::Clean(s, t) => (s, "sends clean for", t),
+        Call::CleanAck(s, t) => (s, "is sent clean ack for", t),
+        _ => (0, "does nothing with", 0),
     }
 }
 
 pub impl fmt::Display for Call as CallDisplay {
     fn fmt<W: fmt::Write>(&self, f: &mut fmt::Formatter<W>) -> fmt::Result {
         match *self {
-            Call::CopyAck(s, p, k) => write!(
-                f,
-                "send copy ack of {} for {k} of {}",
-                station_name(s),
-                station_name(p)
-            ),
-            Call::Dirty(s, t) => write!(f, "send dirty of {} for trace {t}", station_name(s)),
-            Call::DirtyAck(s, t) => write!(
-                f,
-                "send dirty ack to {} for trace {t}",
-                station_name(s)
-            ),
-            Call::Clean(s, t) => write!(f, "send clean of {} for trace {t}", station_name(s)),
-            Call::CleanAck(s, t) => write!(
-                f,
-                "send clean ack to {} for trace {t}",
-                station_name(s)
-            ),
+            Call::Open(s) => write!(f, "{} opens a trace", station_name(s)),
+            Call::HandOn(s, d, t) => {
+                write!(
+                    f,
+                    "{} hands trace {t} on to {}",
+                    station_name(s),
+                    station_name(d)
+                )
+            }
+            Call::CopyAck(s, p, k) => {
+                write!(
+                    f,
+                    "{} sends copy ack for {k} of {}",
+                    station_name(s),
+                    station_name(p)
+                )
+            }
             Call::Deliver(place) => write!(f, "deliver at {place}"),
             Call::Report => write!(f, "report"),
-            call => show_user_call(call, f),
+            call => {
+                let (station, does, trace) = in_words(call);
+                write!(f, "{} {does} trace {trace}", station_name(station))
+            }
         }
     }
+}
+
+// A call with no stated answer.
+fn done(answer: Result<(), Refusal>) -> Result<Option<u32>, Refusal> {
+    answer?;
+    Ok(None)
+}
+
+// A call that answers a number.
+fn number<N: Into<u32>>(answer: Result<N, Refusal>) -> Result<Option<u32>, Refusal> {
+    Ok(Some(answer?.into()))
 }
 
 // Makes the call. The answer is a trace's or a packet's number, or a number of rows, where there is one.
@@ -83,21 +94,20 @@ fn make<L: Link>(
     rows: &mut [Row],
 ) -> Result<Option<u32>, Refusal> {
     match call {
-        Call::Open(s) => return Ok(Some(u32::from(field.open(s)?))),
-        Call::HandOn(s, d, t) => return Ok(Some(field.hand_on(s, d, t)?)),
-        Call::Report => return Ok(Some(u32::from(field.report(rows)?))),
-        Call::Use(s, t) => field.use_trace(s, t)?,
-        Call::GiveBack(s, t) => field.give_back(s, t)?,
-        Call::Drop(s, t) => field.drop_trace(s, t)?,
-        Call::Erase(s, t) => field.erase(s, t)?,
-        Call::CopyAck(s, p, k) => field.send_copy_ack(s, p, k)?,
-        Call::Dirty(s, t) => field.send_dirty(s, t)?,
-        Call::DirtyAck(s, t) => field.send_dirty_ack(s, t)?,
-        Call::Clean(s, t) => field.send_clean(s, t)?,
-        Call::CleanAck(s, t) => field.send_clean_ack(s, t)?,
-        Call::Deliver(place) => field.deliver(place)?,
+        Call::Open(s) => number(field.open(s)),
+        Call::Use(s, t) => done(field.use_trace(s, t)),
+        Call::GiveBack(s, t) => done(field.give_back(s, t)),
+        Call::HandOn(s, d, t) => number(field.hand_on(s, d, t)),
+        Call::Drop(s, t) => done(field.drop_trace(s, t)),
+        Call::Erase(s, t) => done(field.erase(s, t)),
+        Call::CopyAck(s, p, k) => done(field.send_copy_ack(s, p, k)),
+        Call::Dirty(s, t) => done(field.send_dirty(s, t)),
+        Call::DirtyAck(s, t) => done(field.send_dirty_ack(s, t)),
+        Call::Clean(s, t) => done(field.send_clean(s, t)),
+        Call::CleanAck(s, t) => done(field.send_clean_ack(s, t)),
+        Call::Deliver(place) => done(field.deliver(place)),
+        Call::Report => number(field.report(rows)),
     }
-    Ok(None)
 }
 
 fn show_answer(rt: &LibcRuntime, answer: Result<Option<u32>, Refusal>) -> io::Result<()> {

@@ -10,12 +10,12 @@ use ends::row::Row;
 use ends::row::RowLink;
 use field::Field;
 use field::modes::WorkingMode;
-use field::rigging::Rigging;
 use link::share::Share;
 use link::share::ShareLink;
 use names::GAUGE;
 use names::LOGGER;
 use names::RELAY;
+use protocol::rigging::Rigging;
 use std::io;
 
 const TRACE: u8 = 0;

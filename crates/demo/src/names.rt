@@ -1,7 +1,7 @@
 // The names of the story: stations, messages and words in plain text.
-use field::report::Word;
 use link::message::Kind;
 use link::message::Message;
+use protocol::report::Word;
 use std::fmt;
 
 pub const GAUGE: u8 = 0;

@@ -7,16 +7,15 @@ ghost use Rattle.tables.specs.Kept.{cell-at, rigged};
 use crate::modes::Mode;
 use crate::modes::Working;
 use crate::modes::WorkingMode;
-use crate::rigging::Rigging;
 use link::interface::Link;
 use link::message::Message;
+use protocol::rigging::Rigging;
 use tables::cell::Cell;
 use tables::tables::Tables;
 
 pub mod house_calls;
 pub mod modes;
 pub mod report;
-pub mod rigging;
 pub mod user_calls;
 
 // The stations, their tables and their link, in a mode that says which calls there are.

@@ -12,7 +12,7 @@ pub trait Mode {
 }
 
 // A field that works has all calls, and counts none.
-#[derive(Clone, Copy, PartialEq, Eq, Debug)]
+#[derive(Clone, Copy)]
 pub struct Working;
 
 pub impl Mode for Working as WorkingMode {

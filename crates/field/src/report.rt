@@ -1,29 +1,14 @@
 // The report: one row for each trace.
 ghost use mathlib.Core.Path.{_≡_};
 ghost use Rattle.protocol.specs.Calls.{told};
-ghost use Rattle.field.specs.Reports.{reported, row-of, rows-after};
+ghost use Rattle.protocol.specs.Reports.{reported, row-of, rows-after};
 use crate::Field;
 use crate::modes::Mode;
 use link::interface::Link;
 use protocol::refusal::Refusal;
+use protocol::report::Row;
+use protocol::report::Word;
 use tables::tables::Tables;
-
-// What the owner may do with a trace: nothing more, erase it, or keep it.
-#[derive(Clone, Copy, PartialEq, Eq, Debug)]
-pub enum Word {
-    Erased,
-    Free,
-    Kept,
-}
-
-// The row of a trace: its number, its owner, the word, and how many stations are listed.
-#[derive(Clone, Copy, PartialEq, Eq, Debug)]
-pub struct Row {
-    pub trace: u8,
-    pub owner: u8,
-    pub word: Word,
-    pub listed: u8,
-}
 
 // The row of a trace.
 fn row_of(tables: &Tables, trace: u8) -> Row

@@ -4,3 +4,4 @@ pub mod Known
 pub mod UserCalls
 pub mod HouseCalls
 pub mod Delivery
+pub mod Reports

@@ -1,6 +1,6 @@
 use native.Mathlib.Numerals.{add-one}
 use mathlib.Core.Path.{refl}
-use Rattle.field.specs.Reports.{filled}
+use Rattle.protocol.specs.Reports.{filled}
 use Rattle.field.proofs.Field.report.Needs as need
 
 pub loop-trace-holds : need.loop-trace-holds

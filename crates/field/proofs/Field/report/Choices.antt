@@ -1,5 +1,5 @@
 use mathlib.Core.Path.{_≡_}
-use Rattle.field.specs.Reports.{filled}
+use Rattle.protocol.specs.Reports.{filled}
 use Rattle.field.proofs.Field.report.Given as given
 
 abbrev pub Inv-loop-trace : given.InvT-loop-trace

@@ -1,9 +1,9 @@
 // Rigging: how many stations a field has, and where their packet numbers start.
 ghost use mathlib.Core.Path.{_≡_};
 ghost use Prim.Native.Nat.{_≤_};
 ghost use Rattle.protocol.specs.Refusals.{fault, numbered};
 ghost use Rattle.std.specs.Results.{Cases};
-use protocol::refusal::Refusal;
+use crate::refusal::Refusal;
 
 // An accepted rigging: 2 to 16 stations.
 #[derive(Clone, Copy)]

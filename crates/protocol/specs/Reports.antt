@@ -5,13 +5,13 @@ use lib.ListN.{length, set}
 use mathlib.Core.Bool.{Bool, cond}
 use mathlib.Core.List.{List, [], _∷_}
 use Rattle.std.specs.declared.result.Result.{Result}
 use Rattle.protocol.specs.Calls.{_when_, first-refusal, verdict}
 use Rattle.protocol.specs.Refusals.{Fault}
 use Rattle.tables.specs.Kept.{list-empty, listed, trace-at}
 use Rattle.tables.specs.declared.tables.Tables.{Tables}
-use Rattle.field.specs.declared.report.Row.{Row}
-use Rattle.field.specs.declared.report.Word.{Word}
-use Rattle.field.specs.declared.report.Word.the-variants.{Erased, Free, Kept}
+use Rattle.protocol.specs.declared.report.Row.{Row}
+use Rattle.protocol.specs.declared.report.Word.{Word}
+use Rattle.protocol.specs.declared.report.Word.the-variants.{Erased, Free, Kept}
 
 -- erased; else free when the owner's list is empty; else kept
 abbrev pub word-of : Tables → ℕ → Word
