@@ -4,6 +4,8 @@ use field::modes::Working;
 use field::modes::WorkingMode;
 use link::interface::Link;
 use protocol::refusal::Refusal;
+use script::Call;
+use script::carry_out;
 use std::test::*;
 
 // The number of the refusal, or 0 where there is none.
@@ -14,52 +16,29 @@ pub(crate) fn refused<T: Drop>(answer: Result<T, Refusal>) -> u8 {
     }
 }
 
-// A list of calls with the refusals that they should get; it remembers the first that got another.
-#[derive(Drop)]
-pub(crate) struct Calls {
-    made: u32,
-    wrong: Option<u32>,
-}
-
-impl Calls {
-    pub(crate) fn new() -> Calls {
-        Calls {
-            made: 0,
-            wrong: None,
-        }
-    }
-
-    // The next call got this answer and should get this number, 0 where it is accepted.
-    pub(crate) fn expect<T: Drop>(&mut self, number: u8, answer: Result<T, Refusal>) {
-        self.made = self.made.saturating_add(1);
-        if refused(answer) != number && self.wrong.is_none() {
-            self.wrong = Some(self.made);
-        }
-    }
-
-    // All calls got what they should.
-    pub(crate) fn all_right(self) -> Result<(), Fail> {
-        check_eq(self.wrong, None).note("the number of the first call that got another answer")
-    }
-}
-
-// Hands a trace on and makes every house call that follows, where nothing else waits. The answer is the
-// packet number.
-pub(crate) fn give<L: Link>(
+// Makes the calls one after the other. Each stands beside the number of the refusal that it should get, 0
+// where it should be accepted.
+pub(crate) fn play<L: Link>(
     field: &mut Field<L, Working>,
-    sender: u8,
-    receiver: u8,
-    trace: u8,
-) -> Result<u32, Refusal> {
-    let packet = field.hand_on(sender, receiver, trace)?;
-    field.deliver(0)?;
-    if field.cell(receiver, trace).awaits() {
-        field.send_dirty(receiver, trace)?;
-        field.deliver(0)?;
-        field.send_dirty_ack(receiver, trace)?;
-        field.deliver(0)?;
+    calls: &[(Call, u8)],
+) -> Result<(), Fail> {
+    for step in calls {
+        let (call, number) = *step;
+        check_eq(refused(carry_out(field, call)), number)?;
     }
-    field.send_copy_ack(receiver, sender, packet)?;
-    field.deliver(0)?;
-    Ok(packet)
+    Ok(())
+}
+
+// Station 0 opens trace 0 and hands it on to station 1, which then holds it, and nothing waits.
+pub(crate) fn handed_on(first: u32) -> [(Call, u8); 8] {
+    [
+        (Call::Open(0), 0),
+        (Call::HandOn(0, 1, 0), 0),
+        (Call::Deliver(0), 0),
+        (Call::Dirty(1, 0), 0),
+        (Call::Deliver(0), 0),
+        (Call::DirtyAck(1, 0), 0),
+        (Call::Deliver(0), 0),
+        (Call::CopyAck(1, 0, first), 0),
+    ]
 }

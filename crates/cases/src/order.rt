@@ -1,6 +1,6 @@
-// The order of refusals: arguments under which two conditions hold, for each call.
-use crate::help::Calls;
-use crate::help::give;
+// The order of refusals: for each call, arguments under which two conditions hold.
+use crate::help::handed_on;
+use crate::help::play;
 use ends::row::Row;
 use ends::row::RowLink;
 use field::Field;
@@ -9,6 +9,7 @@ use link::share::Share;
 use link::share::ShareLink;
 use protocol::refusal::RefusalDebug;
 use protocol::rigging::Rigging;
+use script::Call;
 use std::test::*;
 
 const LAST: u32 = 4294967295;
@@ -18,137 +19,154 @@ const OUT: u8 = 200;
 #[test]
 fn opening_and_uses() -> Result<(), Fail> {
     let mut field = Field::new(Rigging::new(2, 0)?, Row::new());
-    let mut calls = Calls::new();
-    calls.expect(1, field.use_trace(OUT, OUT));
-    calls.expect(2, field.use_trace(0, OUT));
-    calls.expect(1, field.give_back(OUT, OUT));
-    calls.expect(2, field.give_back(0, OUT));
-    for trace in 0..32u8 {
-        calls.expect(0, field.open(0));
-    }
-    calls.expect(1, field.open(OUT));
-    calls.expect(5, field.use_trace(1, 0));
-    calls.expect(12, field.give_back(1, 0));
-    for _ in 0..255u8 {
-        calls.expect(0, field.use_trace(0, 0));
-    }
-    calls.expect(11, field.use_trace(0, 0));
-    calls.all_right()
+    let calls = [
+        (Call::Use(OUT, OUT), 1),
+        (Call::Use(0, OUT), 2),
+        (Call::GiveBack(OUT, OUT), 1),
+        (Call::GiveBack(0, OUT), 2),
+    ];
+    play(&mut field, &calls)?;
+    play(&mut field, &[(Call::Open(0), 0); 32])?;
+    play(
+        &mut field,
+        &[
+            (Call::Open(OUT), 1),
+            (Call::Use(1, 0), 5),
+            (Call::GiveBack(1, 0), 12),
+        ],
+    )?;
+    play(&mut field, &[(Call::Use(0, 0), 0); 255])?;
+    play(&mut field, &[(Call::Use(0, 0), 11)])
 }
 
 #[test]
 fn handing_on() -> Result<(), Fail> {
     let mut field = Field::new(Rigging::new(3, LAST - 63)?, Row::new());
-    let mut calls = Calls::new();
-    calls.expect(1, field.hand_on(0, OUT, OUT));
-    calls.expect(1, field.hand_on(OUT, 0, OUT));
-    calls.expect(2, field.hand_on(0, 0, OUT));
-    calls.expect(0, field.open(0));
-    calls.expect(4, field.hand_on(1, 1, 0));
-    for _ in 0..64u8 {
-        calls.expect(0, field.hand_on(0, 1, 0));
-    }
-    calls.expect(5, field.hand_on(1, 2, 0));
-    calls.expect(13, field.hand_on(0, 1, 0));
-    calls.all_right()
+    let calls = [
+        (Call::HandOn(0, OUT, OUT), 1),
+        (Call::HandOn(OUT, 0, OUT), 1),
+        (Call::HandOn(0, 0, OUT), 2),
+        (Call::Open(0), 0),
+        (Call::HandOn(1, 1, 0), 4),
+    ];
+    play(&mut field, &calls)?;
+    play(&mut field, &[(Call::HandOn(0, 1, 0), 0); 64])?;
+    // 64 sent entries, and the numbers of station 0 are spent
+    play(
+        &mut field,
+        &[(Call::HandOn(1, 2, 0), 5), (Call::HandOn(0, 1, 0), 13)],
+    )
 }
 
 #[test]
 fn numbers_are_checked_before_gates() -> Result<(), Fail> {
     let mut field = Field::new(Rigging::new(2, LAST)?, Share::new(Row::new(), 1));
-    let mut calls = Calls::new();
-    calls.expect(0, field.open(0));
-    calls.expect(0, field.hand_on(0, 1, 0));
-    calls.expect(14, field.hand_on(0, 1, 0));
-    calls.all_right()
+    play(
+        &mut field,
+        &[
+            (Call::Open(0), 0),
+            (Call::HandOn(0, 1, 0), 0),
+            (Call::HandOn(0, 1, 0), 14),
+        ],
+    )
 }
 
 #[test]
 fn dropping() -> Result<(), Fail> {
     let mut field = Field::new(Rigging::new(3, 0)?, Row::new());
-    let mut calls = Calls::new();
-    calls.expect(1, field.drop_trace(OUT, OUT));
-    calls.expect(2, field.drop_trace(0, 0));
-    calls.expect(0, field.open(0));
-    calls.expect(0, field.use_trace(0, 0));
-    calls.expect(6, field.drop_trace(0, 0));
-    calls.expect(0, give(&mut field, 0, 1, 0));
-    calls.expect(0, field.use_trace(1, 0));
-    calls.expect(0, field.hand_on(1, 2, 0));
-    calls.expect(8, field.drop_trace(1, 0));
-    calls.expect(5, field.drop_trace(2, 0));
-    calls.expect(0, field.give_back(1, 0));
-    calls.expect(10, field.drop_trace(1, 0));
-    calls.all_right()
+    play(
+        &mut field,
+        &[(Call::Drop(OUT, OUT), 1), (Call::Drop(0, 0), 2)],
+    )?;
+    play(&mut field, &handed_on(0))?;
+    let calls = [
+        (Call::Use(0, 0), 0),
+        (Call::Drop(0, 0), 6),
+        (Call::Use(1, 0), 0),
+        (Call::HandOn(1, 2, 0), 0),
+        (Call::Drop(1, 0), 8),
+        (Call::Drop(2, 0), 5),
+        (Call::GiveBack(1, 0), 0),
+        (Call::Drop(1, 0), 10),
+    ];
+    play(&mut field, &calls)
 }
 
 #[test]
 fn erasing() -> Result<(), Fail> {
     let mut field = Field::new(Rigging::new(2, 0)?, Row::new());
-    let mut calls = Calls::new();
-    calls.expect(1, field.erase(OUT, OUT));
-    calls.expect(2, field.erase(1, OUT));
-    calls.expect(0, field.open(0));
-    calls.expect(7, field.erase(1, 0));
-    calls.expect(0, field.use_trace(0, 0));
-    calls.expect(0, field.hand_on(0, 1, 0));
-    calls.expect(8, field.erase(0, 0));
-    calls.expect(0, field.give_back(0, 0));
-    calls.expect(9, field.erase(0, 0));
-    calls.expect(0, field.open(1));
-    calls.expect(0, field.erase(1, 1));
-    calls.expect(5, field.erase(1, 1));
-    calls.expect(6, field.drop_trace(1, 1));
-    calls.all_right()
+    let calls = [
+        (Call::Erase(OUT, OUT), 1),
+        (Call::Erase(1, OUT), 2),
+        (Call::Open(0), 0),
+        (Call::Erase(1, 0), 7),
+        (Call::Use(0, 0), 0),
+        (Call::HandOn(0, 1, 0), 0),
+        (Call::Erase(0, 0), 8),
+        (Call::GiveBack(0, 0), 0),
+        (Call::Erase(0, 0), 9),
+        (Call::Open(1), 0),
+        (Call::Erase(1, 1), 0),
+        (Call::Erase(1, 1), 5),
+        (Call::Drop(1, 1), 6),
+    ];
+    play(&mut field, &calls)
 }
 
 #[test]
 fn sendings() -> Result<(), Fail> {
     let mut field = Field::new(Rigging::new(3, 0)?, Share::new(Row::new(), 1));
-    let mut calls = Calls::new();
-    calls.expect(1, field.send_copy_ack(OUT, 0, 0));
-    calls.expect(1, field.send_copy_ack(0, OUT, 0));
-    calls.expect(1, field.send_dirty(OUT, OUT));
-    calls.expect(2, field.send_dirty_ack(0, OUT));
-    calls.expect(2, field.send_clean(0, OUT));
-    calls.expect(2, field.send_clean_ack(0, OUT));
-    calls.expect(0, field.open(0));
-    calls.expect(0, field.hand_on(0, 1, 0));
-    calls.expect(16, field.send_copy_ack(0, 1, 0));
-    calls.expect(16, field.send_dirty(0, 0));
-    calls.expect(16, field.send_dirty_ack(1, 0));
-    calls.expect(16, field.send_clean(0, 0));
-    calls.expect(16, field.send_clean_ack(1, 0));
-    calls.expect(18, field.deliver(1));
-    calls.all_right()
+    let calls = [
+        (Call::CopyAck(OUT, 0, 0), 1),
+        (Call::CopyAck(0, OUT, 0), 1),
+        (Call::Dirty(OUT, OUT), 1),
+        (Call::DirtyAck(0, OUT), 2),
+        (Call::Clean(0, OUT), 2),
+        (Call::CleanAck(0, OUT), 2),
+        (Call::Open(0), 0),
+        (Call::HandOn(0, 1, 0), 0),
+    ];
+    play(&mut field, &calls)?;
+    // the gate of station 0, the owner, is closed now
+    let calls = [
+        (Call::CopyAck(0, 1, 0), 16),
+        (Call::Dirty(0, 0), 16),
+        (Call::DirtyAck(1, 0), 16),
+        (Call::Clean(0, 0), 16),
+        (Call::CleanAck(1, 0), 16),
+        (Call::Deliver(1), 18),
+    ];
+    play(&mut field, &calls)
 }
 
 #[test]
 fn a_dirty_in_ccitnil_before_gates() -> Result<(), Fail> {
     let mut field = Field::new(Rigging::new(2, 0)?, Share::new(Row::new(), 1));
-    let mut calls = Calls::new();
-    calls.expect(0, field.open(0));
-    calls.expect(0, give(&mut field, 0, 1, 0));
-    calls.expect(0, field.drop_trace(1, 0));
-    calls.expect(0, field.send_clean(1, 0));
-    calls.expect(0, field.hand_on(0, 1, 0));
-    calls.expect(0, field.deliver(1));
-    calls.expect(17, field.send_dirty(1, 0));
-    calls.all_right()
+    play(&mut field, &handed_on(0))?;
+    let calls = [
+        (Call::Deliver(0), 0),
+        (Call::Drop(1, 0), 0),
+        (Call::Clean(1, 0), 0),
+        (Call::HandOn(0, 1, 0), 0),
+        (Call::Deliver(1), 0),
+        (Call::Dirty(1, 0), 17),
+    ];
+    play(&mut field, &calls)
 }
 
 #[test]
 fn an_ack_asks_the_gate_of_the_owner() -> Result<(), Fail> {
     let mut field = Field::new(Rigging::new(3, 0)?, Share::new(Row::new(), 1));
-    let mut calls = Calls::new();
-    calls.expect(0, field.open(0));
-    calls.expect(0, field.hand_on(0, 1, 0));
-    calls.expect(0, field.deliver(0));
-    calls.expect(0, field.send_dirty(1, 0));
-    calls.expect(0, field.deliver(0));
-    calls.expect(0, field.hand_on(0, 2, 0));
-    calls.expect(15, field.send_dirty_ack(1, 0));
-    calls.expect(0, field.deliver(0));
-    calls.expect(0, field.send_dirty_ack(1, 0));
-    calls.all_right()
+    let calls = [
+        (Call::Open(0), 0),
+        (Call::HandOn(0, 1, 0), 0),
+        (Call::Deliver(0), 0),
+        (Call::Dirty(1, 0), 0),
+        (Call::Deliver(0), 0),
+        (Call::HandOn(0, 2, 0), 0),
+        (Call::DirtyAck(1, 0), 15),
+        (Call::Deliver(0), 0),
+        (Call::DirtyAck(1, 0), 0),
+    ];
+    play(&mut field, &calls)
 }

@@ -1,4 +1,4 @@
-// The calls of the story: how each reads, how it is carried out, and how its answer reads.
+// The lines of the story: how a call reads, and how its answer reads.
 use crate::names::Shown;
 use crate::names::ShownDisplay;
 use crate::names::station_name;
@@ -10,26 +10,21 @@ use link::interface::Link;
 use protocol::refusal::Refusal;
 use protocol::report::Row;
 use protocol::report::Word;
+use script::Call;
+use script::carry_out;
 use std::fmt;
 use std::io;
 
-// A call with its arguments: stations first, then the trace or the packet number.
+// A line of the story: a call, or a report.
 #[derive(Clone, Copy)]
-pub enum Call {
-    Open(u8),
-    Use(u8, u8),
-    GiveBack(u8, u8),
-    HandOn(u8, u8, u8),
-    Drop(u8, u8),
-    Erase(u8, u8),
-    CopyAck(u8, u8, u32),
-    Dirty(u8, u8),
-    DirtyAck(u8, u8),
-    Clean(u8, u8),
-    CleanAck(u8, u8),
-    Deliver(u32),
+pub enum Line {
+    Make(Call),
     Report,
 }
+
+// A call in words.
+#[derive(Clone, Copy)]
+struct Worded(Call);
 
 // A call on a station and a trace, with its words.
 fn in_words(call: Call) -> (u8, &'static str, u8) {
@@ -42,13 +37,13 @@ fn in_words(call: Call) -> (u8, &'static str, u8) {
         Call::DirtyAck(s, t) => (s, "is sent dirty ack for", t),
         Call::Clean(s, t) => (s, "sends clean for", t),
         Call::CleanAck(s, t) => (s, "is sent clean ack for", t),
-        _ => (0, "does nothing with", 0),
+        _ => (0, "", 0),
     }
 }
 
-pub impl fmt::Display for Call as CallDisplay {
+impl fmt::Display for Worded as WordedDisplay {
     fn fmt<W: fmt::Write>(&self, f: &mut fmt::Formatter<W>) -> fmt::Result {
-        match *self {
+        match self.0 {
             Call::Open(s) => write!(f, "{} opens a trace", station_name(s)),
             Call::HandOn(s, d, t) => {
                 write!(
@@ -67,7 +62,6 @@ pub impl fmt::Display for Call as CallDisplay {
                 )
             }
             Call::Deliver(place) => write!(f, "deliver at {place}"),
-            Call::Report => write!(f, "report"),
             call => {
                 let (station, does, trace) = in_words(call);
                 write!(f, "{} {does} trace {trace}", station_name(station))
@@ -76,38 +70,9 @@ pub impl fmt::Display for Call as CallDisplay {
     }
 }
 
-// A call with no stated answer.
-fn done(answer: Result<(), Refusal>) -> Result<Option<u32>, Refusal> {
-    answer?;
-    Ok(None)
-}
-
-// A call that answers a number.
-fn number<N: Into<u32>>(answer: Result<N, Refusal>) -> Result<Option<u32>, Refusal> {
-    Ok(Some(answer?.into()))
-}
-
-// Makes the call. The answer is a trace's or a packet's number, or a number of rows, where there is one.
-fn make<L: Link>(
-    field: &mut Field<L, Working>,
-    call: Call,
-    rows: &mut [Row],
-) -> Result<Option<u32>, Refusal> {
-    match call {
-        Call::Open(s) => number(field.open(s)),
-        Call::Use(s, t) => done(field.use_trace(s, t)),
-        Call::GiveBack(s, t) => done(field.give_back(s, t)),
-        Call::HandOn(s, d, t) => number(field.hand_on(s, d, t)),
-        Call::Drop(s, t) => done(field.drop_trace(s, t)),
-        Call::Erase(s, t) => done(field.erase(s, t)),
-        Call::CopyAck(s, p, k) => done(field.send_copy_ack(s, p, k)),
-        Call::Dirty(s, t) => done(field.send_dirty(s, t)),
-        Call::DirtyAck(s, t) => done(field.send_dirty_ack(s, t)),
-        Call::Clean(s, t) => done(field.send_clean(s, t)),
-        Call::CleanAck(s, t) => done(field.send_clean_ack(s, t)),
-        Call::Deliver(place) => done(field.deliver(place)),
-        Call::Report => number(field.report(rows)),
-    }
+// The answer of a report.
+fn number(answer: Result<u8, Refusal>) -> Result<Option<u32>, Refusal> {
+    Ok(Some(u32::from(answer?)))
 }
 
 fn show_answer(rt: &LibcRuntime, answer: Result<Option<u32>, Refusal>) -> io::Result<()> {
@@ -124,59 +89,54 @@ fn show_answer(rt: &LibcRuntime, answer: Result<Option<u32>, Refusal>) -> io::Re
     }
 }
 
-fn show_rows(rt: &LibcRuntime, rows: &[Row]) -> io::Result<()> {
-    for row in rows {
-        let Row {
-            trace,
-            owner,
-            word,
-            listed,
-        } = *row;
+// Prints a report's rows.
+fn report<L: Link>(rt: &LibcRuntime, field: &Field<L, Working>) -> io::Result<()> {
+    let blank = Row {
+        trace: 0,
+        owner: 0,
+        word: Word::Free,
+        listed: 0,
+    };
+    let mut rows = [blank; 1];
+    print!(rt, "report")?;
+    let answer = field.report(&mut rows);
+    show_answer(rt, number(answer))?;
+    for row in &rows {
+        let owner = station_name(row.owner);
+        let word = word_name(row.word);
         println!(
             rt,
-            "  trace {trace} of {}: {}, {listed} listed",
-            station_name(owner),
-            word_name(word)
+            "  trace {} of {owner}: {word}, {} listed",
+            row.trace, row.listed
         )?;
     }
     Ok(())
 }
 
-// Makes one call and prints it with its answer; a delivery shows what it brings, and a report its rows.
-fn carry_out_one<L: Link>(
-    rt: &LibcRuntime,
-    field: &mut Field<L, Working>,
-    call: Call,
-) -> io::Result<()> {
-    let mut rows = [Row {
-        trace: 0,
-        owner: 0,
-        word: Word::Free,
-        listed: 0,
-    }; 1];
-    print!(rt, "{call}")?;
+// Makes a call and prints it with its answer; a delivery shows what it brings.
+fn make<L: Link>(rt: &LibcRuntime, field: &mut Field<L, Working>, call: Call) -> io::Result<()> {
+    let worded = Worded(call);
+    print!(rt, "{worded}")?;
     if let Call::Deliver(place) = call {
         if let Some(message) = field.offer(place) {
             let shown = Shown(message);
             print!(rt, ", {shown}")?;
         }
     }
-    let answer = make(field, call, &mut rows);
-    show_answer(rt, answer)?;
-    match (call, answer) {
-        (Call::Report, Ok(_)) => show_rows(rt, &rows),
-        _ => Ok(()),
-    }
+    show_answer(rt, carry_out(field, call))
 }
 
-// Makes the calls one after the other.
-pub fn carry_out<L: Link>(
+// Tells the lines one after the other.
+pub fn tell<L: Link>(
     rt: &LibcRuntime,
     field: &mut Field<L, Working>,
-    calls: &[Call],
+    lines: &[Line],
 ) -> io::Result<()> {
-    for call in calls {
-        carry_out_one(rt, field, *call)?;
+    for line in lines {
+        match *line {
+            Line::Make(call) => make(rt, field, call)?,
+            Line::Report => report(rt, field)?,
+        }
     }
     Ok(())
 }
