@@ -1,7 +1,7 @@
 // Fields: the worked examples of rigging, opening, dropping, cleaning, numbering, gates and reports.
-use crate::help::handed_on;
-use crate::help::play;
-use crate::help::refused;
+use crate::handed_on;
+use crate::play;
+use crate::refused;
 use ends::basket::Basket;
 use ends::basket::BasketLink;
 use ends::row::Row;

@@ -1,6 +1,6 @@
 // The order of refusals: for each call, arguments under which two conditions hold.
-use crate::help::handed_on;
-use crate::help::play;
+use crate::handed_on;
+use crate::play;
 use ends::row::Row;
 use ends::row::RowLink;
 use field::Field;
