@@ -8,6 +8,7 @@ use Rattle.std.specs.declared.option.Option.{Option}
 use Rattle.std.specs.declared.option.Option.the-variants.{None, Some}
 use Rattle.std.specs.declared.result.Result.{Result}
 use Rattle.std.specs.declared.result.Result.the-variants.{Ok, Err}
+use Rattle.std.specs.shelf.Lists.{All}
 use Rattle.protocol.specs.Calls.{Check, first-refusal, verdict}
 use Rattle.protocol.specs.Refusals.{Fault}
 
@@ -37,3 +38,13 @@ refused-by (Some g) f a is = cc
 pub accepted-by : {A : Type 0} (o : Option Fault) (a x : A) → Ok x ≡ verdict o a → (o ≡ None) × (x ≡ a)
 accepted-by None a x is = (refl, cc)
 accepted-by (Some g) a x is = let z : _≡_ {A = ℕ} 0 1 = cc in absurd (omega arith)
+
+-- accepted means that no condition holds
+none-met : (b : Bool) (g : Fault) (rest : Option Fault) → cond b (Some g) rest ≡ None → (b ≡ false) × (rest ≡ None)
+none-met true g rest is = let z : _≡_ {A = ℕ} 0 1 = cc in absurd (omega arith)
+none-met false g rest is = (refl, is)
+
+pub no-condition : (cs : List Check) → first-refusal cs ≡ None → All (λ c. c .met ≡ false) cs
+no-condition [] is = tt
+no-condition (c ∷ cs) is =
+    let here = none-met (c .met) (c .refusal) (first-refusal cs) is in (here .0, no-condition cs (here .1))
