@@ -1,6 +1,6 @@
 // The calls that users make on a field that works.
 ghost use Rattle.field.specs.Carried.{Carried};
-ghost use Rattle.protocol.specs.UserCalls.{dropping, erasing, giving-back, handing-on, opening, making-use};
+ghost use Rattle.protocol.specs.UserCalls.{dropping, erasing, giving-back, handing-on, making-use, opening};
 use crate::Field;
 use crate::modes::Working;
 use crate::modes::WorkingMode;

@@ -10,9 +10,11 @@ pub record Fault : Type 0 where
   pub number : ℕ
   pub depth : Option ℕ
 
+-- the refusal with this number and no depth
 abbrev pub numbered : ℕ → Fault
 numbered n = record { number = n; depth = None }
 
+-- each case of the refusals, by its number
 abbrev pub fault : Refusal → Fault
 fault NoStation = numbered 1
 fault NoTrace = numbered 2

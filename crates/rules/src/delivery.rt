@@ -95,7 +95,7 @@ fn list(tables: &mut Tables, message: Message, listed: bool, ack: Duty)
     tables.set_cell(message.sender, message.trace, cell.with_duty(ack, true));
 }
 
-// Brings a message of a kind into the tables.
+// Brings a message of a kind into the tables, by the state at the receiver.
 pub fn bring(tables: &mut Tables, message: Message, kind: Kind)
     ensures { λ _. ⌜ now (tables .exit) ≡ delivered (now (tables .entry)) message (Some kind) ⌝ }
 {
@@ -114,6 +114,7 @@ pub fn bring(tables: &mut Tables, message: Message, kind: Kind)
             tables.set_cell(receiver, trace, cell.awaiting(State::CcitNil));
             receive(tables, message, false);
         }
+        // it awaits the trace already
         (_, Kind::Copy) => receive(tables, message, false),
         (_, Kind::CopyAck) => {
             let _ = slots::strike(&mut tables.sent, &Exactly(acked(message)));
@@ -130,6 +131,7 @@ pub fn bring(tables: &mut Tables, message: Message, kind: Kind)
         (State::CcitNil, Kind::CleanAck) => {
             tables.set_cell(receiver, trace, cell.in_state(State::Nil));
         }
+        // out of place
         (_, Kind::CleanAck) => {}
     }
 }

@@ -23,6 +23,7 @@ blank = record {
   «clean_ack» = false;
 }
 
+-- the single states
 abbrev pub is-nil : State → Bool
 is-nil None = false
 is-nil Nil = true

@@ -52,6 +52,7 @@ with-cell s t c T = record {
   next = T .next;
 }
 
+-- the tables with one of their parts changed
 abbrev pub with-traces : ℕ → List Trace → Tables → Tables
 with-traces n ts T = record {
   stations = T .stations;
@@ -100,7 +101,7 @@ with-next ns T = record {
 abbrev pub trace-at : Tables → ℕ → Trace
 trace-at T t = cond (ltb t 32) (getD (T .traces) t unopened) unopened
 
--- the tables with a trace at a number; the same where there is no such number
+-- the traces with another one at a number; the same where there is no such number
 abbrev pub with-trace : ℕ → Trace → List Trace → List Trace
 with-trace t tr ts = cond (ltb t 32) (set ts t tr) ts
 
