@@ -2,6 +2,9 @@
 use crate::handed_on;
 use crate::play;
 use crate::refused;
+use cells::State;
+use cells::StateDebug;
+use cells::StatePartialEq;
 use ends::basket::Basket;
 use ends::basket::BasketLink;
 use ends::row::Row;
@@ -18,9 +21,6 @@ use protocol::report::Word;
 use protocol::rigging::Rigging;
 use script::Call;
 use std::test::*;
-use tables::cell::State;
-use tables::cell::StateDebug;
-use tables::cell::StatePartialEq;
 
 const LAST: u32 = 4294967295;
 

@@ -1,21 +1,21 @@
 // The calls that the house makes for the stations, sendings and deliveries, in a field of any mode.
 ghost use Rattle.protocol.specs.Delivery.{delivering};
 ghost use Rattle.protocol.specs.HouseCalls.{sending, sending-copy-ack};
-ghost use Rattle.tables.specs.declared.cell.Duty.the-variants.{Clean, CleanAck, Dirty, DirtyAck};
+ghost use Rattle.cells.specs.declared.Duty.the-variants.{Clean, CleanAck, Dirty, DirtyAck};
 ghost use Rattle.field.specs.Carried.{Carried};
 use crate::Field;
 use crate::modes::Mode;
+use cells::Duty;
+use delivery::bring;
+use delivery::in_place;
 use link::interface::Link;
 use link::message::Kind;
 use link::message::Message;
 use protocol::refusal::ClosedRefusal;
 use protocol::refusal::Refusal;
 use rules::checks::may_send;
-use rules::delivery::bring;
-use rules::delivery::in_place;
 use rules::duties::done;
 use rules::duties::message_due;
-use tables::cell::Duty;
 use tables::entries::DueFrom;
 use tables::entries::MatchesDueFrom;
 

@@ -7,10 +7,10 @@ ghost use Rattle.tables.specs.Kept.{cell-at, rigged};
 use crate::modes::Mode;
 use crate::modes::Working;
 use crate::modes::WorkingMode;
+use cells::Cell;
 use link::interface::Link;
 use link::message::Message;
 use protocol::rigging::Rigging;
-use tables::cell::Cell;
 use tables::tables::Tables;
 
 pub mod house_calls;

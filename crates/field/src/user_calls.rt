@@ -4,6 +4,8 @@ ghost use Rattle.protocol.specs.UserCalls.{dropping, erasing, giving-back, hand
 use crate::Field;
 use crate::modes::Working;
 use crate::modes::WorkingMode;
+use cells::Duty;
+use cells::State;
 use link::interface::Link;
 use link::message::Kind;
 use link::message::Message;
@@ -14,8 +16,6 @@ use rules::checks::may_erase;
 use rules::checks::may_give_back;
 use rules::checks::may_hand_on;
 use rules::checks::may_use;
-use tables::cell::Duty;
-use tables::cell::State;
 use tables::entries::HandOn;
 
 impl<L: Link> Field<L, Working> {

@@ -7,9 +7,9 @@ use mathlib.Core.Bool.{Bool, true, false, cond}
 use mathlib.Core.List.{List, []}
 use mathlib.Core.Logic.{_≢_}
 use mathlib.Core.Path.{_≡_, refl, ap, _∙_}
-use Rattle.tables.specs.Cells.{blank}
+use Rattle.cells.specs.Cells.{blank}
 use Rattle.tables.specs.Kept.{cell-at, in-tables, with-cell}
-use Rattle.tables.specs.declared.cell.Cell.{Cell}
+use Rattle.cells.specs.declared.Cell.{Cell}
 use Rattle.tables.specs.declared.tables.Tables.{Tables}
 
 -- the cell at a row and a column, and the rows with another one there

@@ -11,14 +11,14 @@ use Rattle.link.specs.Kinds.{kind-of}
 use Rattle.link.specs.declared.message.Kind.{Kind}
 use Rattle.link.specs.declared.message.Kind.the-variants.{Copy, CopyAck, Dirty, DirtyAck, Clean, CleanAck}
 use Rattle.link.specs.declared.message.Message.{Message}
-use Rattle.tables.specs.Cells.{awaiting, in-state, is-ccit, is-ccitnil, is-nil, with-duty, with-listed}
+use Rattle.cells.specs.Cells.{awaiting, in-state, is-ccit, is-ccitnil, is-nil, with-duty, with-listed}
 use Rattle.tables.specs.Copies.{freed, same-hand-on}
 use Rattle.tables.specs.Kept.{cell-at, trace-at, with-cell, with-received, with-sent}
-use Rattle.tables.specs.declared.cell.Cell.{Cell}
-use Rattle.tables.specs.declared.cell.Duty.{Duty}
-use Rattle.tables.specs.declared.cell.Duty.the-variants.{Clean as clean-call, CleanAck as owed-clean-ack, DirtyAck as owed-dirty-ack}
-use Rattle.tables.specs.declared.cell.State.{State}
-use Rattle.tables.specs.declared.cell.State.the-variants.{None, Nil, Ok, Ccit, CcitNil}
+use Rattle.cells.specs.declared.Cell.{Cell}
+use Rattle.cells.specs.declared.Duty.{Duty}
+use Rattle.cells.specs.declared.Duty.the-variants.{Clean as clean-call, CleanAck as owed-clean-ack, DirtyAck as owed-dirty-ack}
+use Rattle.cells.specs.declared.State.{State}
+use Rattle.cells.specs.declared.State.the-variants.{None, Nil, Ok, Ccit, CcitNil}
 use Rattle.tables.specs.declared.entries.HandOn.{HandOn}
 use Rattle.tables.specs.declared.tables.Tables.{Tables}
 use Rattle.protocol.specs.Calls.{Call, Step, _when_, silent, takes}

@@ -9,13 +9,13 @@ use Rattle.slots.specs.Entries.{first, struck}
 use Rattle.link.specs.Kinds.{kind-number}
 use Rattle.link.specs.declared.message.Kind.{Kind}
 use Rattle.link.specs.declared.message.Kind.the-variants.{Clean as a-clean, CleanAck as a-clean-ack, CopyAck, Dirty as a-dirty, DirtyAck as a-dirty-ack}
-use Rattle.tables.specs.Cells.{in-state, is-ccitnil, owes, with-duty}
+use Rattle.cells.specs.Cells.{in-state, is-ccitnil, owes, with-duty}
 use Rattle.tables.specs.Copies.{due-from}
 use Rattle.tables.specs.Kept.{cell-at, trace-at, with-cell, with-received}
-use Rattle.tables.specs.declared.cell.Cell.{Cell}
-use Rattle.tables.specs.declared.cell.Duty.{Duty}
-use Rattle.tables.specs.declared.cell.Duty.the-variants.{Clean, CleanAck, Dirty, DirtyAck}
-use Rattle.tables.specs.declared.cell.State.the-variants.{Ccit}
+use Rattle.cells.specs.declared.Cell.{Cell}
+use Rattle.cells.specs.declared.Duty.{Duty}
+use Rattle.cells.specs.declared.Duty.the-variants.{Clean, CleanAck, Dirty, DirtyAck}
+use Rattle.cells.specs.declared.State.the-variants.{Ccit}
 use Rattle.tables.specs.declared.entries.Received.{Received}
 use Rattle.tables.specs.declared.tables.Tables.{Tables}
 use Rattle.protocol.specs.Calls.{Check, Step, _when_, posts, shut}

@@ -5,8 +5,8 @@ use mathlib.Core.Bool.{Bool, true, not}
 use mathlib.Core.List.{List, [], _∷_}
 use Rattle.slots.specs.Entries.{times}
 use Rattle.std.specs.declared.option.Option.{Option}
-use Rattle.tables.specs.Cells.{holds}
-use Rattle.tables.specs.declared.cell.Cell.{Cell}
+use Rattle.cells.specs.Cells.{holds}
+use Rattle.cells.specs.declared.Cell.{Cell}
 use Rattle.tables.specs.declared.tables.Tables.{Tables}
 use Rattle.protocol.specs.Calls.{Check, _when_}
 

@@ -9,11 +9,11 @@ use Rattle.std.specs.declared.option.Option.the-variants.{None, Some}
 use Rattle.slots.specs.Entries.{placed, times}
 use Rattle.link.specs.Kinds.{kind-number}
 use Rattle.link.specs.declared.message.Kind.the-variants.{Copy}
-use Rattle.tables.specs.Cells.{holds, in-state, one-less, one-more, with-duty}
+use Rattle.cells.specs.Cells.{holds, in-state, one-less, one-more, with-duty}
 use Rattle.tables.specs.Copies.{sent-by}
 use Rattle.tables.specs.Kept.{cell-at, list-empty, next-packet, trace-at, with-cell, with-erased, with-opened, with-sent, with-spent}
-use Rattle.tables.specs.declared.cell.Duty.the-variants.{Clean}
-use Rattle.tables.specs.declared.cell.State.the-variants.{None as none}
+use Rattle.cells.specs.declared.Duty.the-variants.{Clean}
+use Rattle.cells.specs.declared.State.the-variants.{None as none}
 use Rattle.tables.specs.declared.tables.Tables.{Tables}
 use Rattle.protocol.specs.Calls.{Check, Step, _when_, posts, shut, silent}
 use Rattle.protocol.specs.Known.{full, held-unused, in-field, is-opened, known}

@@ -4,14 +4,14 @@ ghost use Rattle.protocol.specs.Calls.{first-refusal, told, verdict};
 ghost use Rattle.protocol.specs.Known.{held-unused, known};
 ghost use Rattle.protocol.specs.UserCalls.{may-drop, may-erase, may-give-back, may-hand-on, may-use, number};
 ghost use Rattle.protocol.specs.HouseCalls.{may-send};
-ghost use Rattle.tables.specs.Cells.{one-less, one-more};
+ghost use Rattle.cells.specs.Cells.{one-less, one-more};
 ghost use Rattle.tables.specs.Kept.{cell-at, next-packet};
+use cells::Cell;
+use cells::Duty;
+use cells::State;
 use protocol::refusal::Refusal;
 use slots::Every;
 use slots::MatchesEvery;
-use tables::cell::Cell;
-use tables::cell::Duty;
-use tables::cell::State;
 use tables::tables::ENTRIES;
 use tables::tables::Tables;
 

@@ -2,11 +2,11 @@
 ghost use mathlib.Core.Path.{_≡_};
 ghost use Rattle.link.specs.Kinds.{kind-number};
 ghost use Rattle.protocol.specs.HouseCalls.{done, kind-due, receiver-of, sender-of};
+use cells::Cell;
+use cells::Duty;
+use cells::State;
 use link::message::Kind;
 use link::message::Message;
-use tables::cell::Cell;
-use tables::cell::Duty;
-use tables::cell::State;
 
 // The message that a duty of a station and a trace asks for.
 pub fn message_due(duty: Duty, station: u8, owner: u8, trace: u8) -> Message

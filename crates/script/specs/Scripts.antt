@@ -9,7 +9,7 @@ use Rattle.protocol.specs.Delivery.{delivering}
 use Rattle.protocol.specs.HouseCalls.{sending, sending-copy-ack}
 use Rattle.protocol.specs.UserCalls.{dropping, erasing, giving-back, handing-on, making-use, opening}
 use Rattle.protocol.specs.declared.refusal.Refusal.{Refusal}
-use Rattle.tables.specs.declared.cell.Duty.the-variants.{Clean as a-clean, CleanAck as a-clean-ack, Dirty as a-dirty, DirtyAck as a-dirty-ack}
+use Rattle.cells.specs.declared.Duty.the-variants.{Clean as a-clean, CleanAck as a-clean-ack, Dirty as a-dirty, DirtyAck as a-dirty-ack}
 use Rattle.script.specs.declared.Call.{Call}
 use Rattle.script.specs.declared.Call.the-variants.{Open, Use, GiveBack, HandOn, Drop, Erase, CopyAck, Dirty, DirtyAck, Clean, CleanAck, Deliver}
 

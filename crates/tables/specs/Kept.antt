@@ -7,10 +7,10 @@ use mathlib.Core.List.{List, []}
 use Rattle.std.specs.declared.option.Option.{Option}
 use Rattle.std.specs.declared.option.Option.the-variants.{None, Some}
 use Rattle.slots.specs.Entries.{times}
-use Rattle.tables.specs.Cells.{blank, in-state}
+use Rattle.cells.specs.Cells.{blank, in-state}
 use Rattle.tables.specs.Copies.{sent-by}
-use Rattle.tables.specs.declared.cell.Cell.{Cell}
-use Rattle.tables.specs.declared.cell.State.the-variants.{Ok}
+use Rattle.cells.specs.declared.Cell.{Cell}
+use Rattle.cells.specs.declared.State.the-variants.{Ok}
 use Rattle.tables.specs.declared.entries.HandOn.{HandOn}
 use Rattle.tables.specs.declared.entries.Received.{Received}
 use Rattle.tables.specs.declared.tables.Tables.{Tables}

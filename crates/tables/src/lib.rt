@@ -1,4 +1,3 @@
 // The records that a field keeps, and their small changes.
-pub mod cell;
 pub mod entries;
 pub mod tables;

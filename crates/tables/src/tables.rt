@@ -6,12 +6,12 @@ ghost use Rattle.std.specs.declared.option.Option.the-variants.{None, Some};
 ghost use Rattle.slots.specs.Entries.{times};
 ghost use Rattle.tables.specs.Copies.{sent-by};
 ghost use Rattle.tables.specs.Kept.{cell-at, list-empty, listed, next-packet, rigged, trace-at, with-cell, with-erased, with-opened, with-spent};
-use crate::cell::Cell;
-use crate::cell::State;
 use crate::entries::HandOn;
 use crate::entries::MatchesSentBy;
 use crate::entries::Received;
 use crate::entries::SentBy;
+use cells::Cell;
+use cells::State;
 
 // How many stations a field has at most.
 pub const STATIONS: usize = 16;

@@ -5,11 +5,11 @@ use mathlib.Core.Bool.{Bool, true, false, cond, not, _&&_, _||_}
 use Rattle.std.specs.declared.option.Option.{Option}
 use Rattle.std.specs.declared.option.Option.the-variants.{Some}
 use Rattle.std.specs.declared.option.Option.the-variants.{None as nothing}
-use Rattle.tables.specs.declared.cell.State.{State}
-use Rattle.tables.specs.declared.cell.State.the-variants.{None, Nil, Ok, Ccit, CcitNil}
-use Rattle.tables.specs.declared.cell.Duty.{Duty}
-use Rattle.tables.specs.declared.cell.Duty.the-variants.{Dirty, DirtyAck, Clean, CleanAck}
-use Rattle.tables.specs.declared.cell.Cell.{Cell}
+use Rattle.cells.specs.declared.State.{State}
+use Rattle.cells.specs.declared.State.the-variants.{None, Nil, Ok, Ccit, CcitNil}
+use Rattle.cells.specs.declared.Duty.{Duty}
+use Rattle.cells.specs.declared.Duty.the-variants.{Dirty, DirtyAck, Clean, CleanAck}
+use Rattle.cells.specs.declared.Cell.{Cell}
 
 -- a station that has nothing to do with the trace
 abbrev pub blank : Cell

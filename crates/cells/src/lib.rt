@@ -1,6 +1,6 @@
 // What a field keeps for one station and one trace.
 ghost use mathlib.Core.Path.{_≡_};
-ghost use Rattle.tables.specs.Cells.{awaiting, awaits, blank, given-back, holds, in-state, owes, used, with-duty, with-listed};
+ghost use Rattle.cells.specs.Cells.{awaiting, awaits, blank, given-back, holds, in-state, owes, used, with-duty, with-listed};
 
 // How a station stands to a trace. Nil: a copy came, and the owner has not confirmed it. Ccit: a clean call
 // is in transit, sent and not confirmed. CcitNil: as Ccit, and a copy came since.
