@@ -12,15 +12,12 @@ use Rattle.std.specs.declared.result.Result.the-variants.{Ok, Err}
 use Rattle.std.specs.shelf.Lists.{countBy}
 use Rattle.link.specs.Gates.{gate-of}
 use Rattle.link.specs.Meaning.{Meaning}
+use Rattle.places.specs.Posting.{end-gate}
 use Rattle.link.specs.Messages.{between, same}
 use Rattle.link.specs.declared.gate.Gate.{Gate}
 use Rattle.link.specs.declared.gate.Gate.the-variants.{Closed, Open}
 use Rattle.link.specs.declared.gate.GateClosed.{GateClosed}
 use Rattle.link.specs.declared.message.Message.{Message}
-
--- every gate closes, at depth 0, exactly when 128 messages wait
-abbrev pub end-gate : List Message → ℕ → Gate
-end-gate bag s = gate-of s (cond (eqb (length bag) 128) (Closed 0) Open)
 
 -- the basket offers all that waits
 abbrev pub basket : List Message → Meaning
@@ -40,12 +37,7 @@ fronts older (m ∷ queue) = cond (stands-behind m older) (fronts (older ++ (m �
 abbrev pub row : List Message → Meaning
 row queue = record { bag = queue; offers = fronts [] queue; gate = end-gate queue }
 
--- the order of posting after a post: a message that was let in stands behind all others
-abbrev pub enqueued : Message → Result (Unit {0}) GateClosed → List Message → List Message
-enqueued m (Ok done) queue = queue ++ (m ∷ [])
-enqueued m (Err closed) queue = queue
-
--- and after a take: the oldest message like the one taken is gone, and the others keep their order
+-- the order of posting after a take: the oldest message like the one taken is gone, and the others keep their order
 abbrev pub dequeued : Option Message → List Message → List Message
 dequeued None queue = queue
 dequeued (Some m) queue = without (same m) queue

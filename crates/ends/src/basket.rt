@@ -2,15 +2,15 @@
 ghost use mathlib.Core.List.{[]};
 ghost use mathlib.Core.Path.{_≡_};
 ghost use Rattle.ends.specs.Queues.{basket-meaning, contents};
-use crate::keys::KindNumber;
-use crate::keys::MatchesKind;
-use crate::keys::MatchesSender;
-use crate::keys::Sender;
-use crate::places::Places;
 use link::gate::Gate;
 use link::gate::GateClosed;
 use link::interface::Link;
 use link::message::Message;
+use places::Places;
+use places::keys::KindNumber;
+use places::keys::MatchesKind;
+use places::keys::MatchesSender;
+use places::keys::Sender;
 
 // A basket, by the places of its messages.
 #[derive(Drop)]

@@ -1,5 +1,3 @@
 // The links that stand alone, at the lower end of a pile: the basket and the row.
 pub mod basket;
-mod keys;
-mod places;
 pub mod row;

@@ -8,19 +8,20 @@ ghost use Rattle.std.specs.Vec.{listOf};
 ghost use Rattle.std.specs.shelf.Maps.{nth};
 ghost use Rattle.slots.specs.Entries.{entries};
 ghost use Rattle.link.specs.Meaning.{Posted, Taken};
-ghost use Rattle.ends.specs.Ends.{dequeued, enqueued, fronts};
+ghost use Rattle.ends.specs.Ends.{dequeued, fronts};
+ghost use Rattle.places.specs.Posting.{enqueued};
 ghost use Rattle.ends.specs.Queues.{queue, row-meaning};
-use crate::keys::KindNumber;
-use crate::keys::MatchesKind;
-use crate::keys::MatchesSender;
-use crate::keys::MatchesWay;
-use crate::keys::Sender;
-use crate::keys::Way;
-use crate::places::Places;
 use link::gate::Gate;
 use link::gate::GateClosed;
 use link::interface::Link;
 use link::message::Message;
+use places::Places;
+use places::keys::KindNumber;
+use places::keys::MatchesKind;
+use places::keys::MatchesSender;
+use places::keys::MatchesWay;
+use places::keys::Sender;
+use places::keys::Way;
 
 // A row, by the places of its messages.
 #[derive(Drop)]

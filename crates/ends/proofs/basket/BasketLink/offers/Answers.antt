@@ -1,5 +1,5 @@
 use native.Mathlib.Omega.{arith}
-use Rattle.ends.proofs.Ends.{entries-few}
+use Rattle.places.proofs.Room.{entries-few}
 use Rattle.ends.proofs.basket.BasketLink.offers.Needs as need
 
 pub returns : need.returns

@@ -1,4 +1,5 @@
-use Rattle.ends.proofs.Ends.{basket-lawful, entries-few}
+use Rattle.ends.proofs.Ends.{basket-lawful}
+use Rattle.places.proofs.Room.{entries-few}
 use Rattle.ends.proofs.basket.BasketLink.the-impl.Needs as need
 
 pub lawful-law : need.lawful-law

@@ -3,7 +3,8 @@ use native.Mathlib.Omega.{arith}
 use borrow.Author.Needs.{needs}
 use mathlib.Core.List.{[]}
 use Rattle.slots.specs.Entries.{entries}
-use Rattle.ends.proofs.Ends.{entries-few, fronts-le}
+use Rattle.ends.proofs.Ends.{fronts-le}
+use Rattle.places.proofs.Room.{entries-few}
 use Rattle.ends.proofs.row.RowLink.offers.Needs as need
 
 pub cast-result : need.cast-result

@@ -1,4 +1,5 @@
-use Rattle.ends.proofs.Ends.{entries-few, row-lawful}
+use Rattle.ends.proofs.Ends.{row-lawful}
+use Rattle.places.proofs.Room.{entries-few}
 use Rattle.ends.proofs.row.RowLink.the-impl.Needs as need
 
 pub lawful-law : need.lawful-law
