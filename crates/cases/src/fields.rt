@@ -2,6 +2,7 @@
 use crate::handed_on;
 use crate::play;
 use crate::refused;
+use cells::Duty;
 use cells::State;
 use cells::StateDebug;
 use cells::StatePartialEq;
@@ -49,9 +50,9 @@ fn a_drop_waits_for_the_copy_ack() -> Result<(), Fail> {
         (Call::HandOn(1, 2, 0), 0),
         (Call::Drop(1, 0), 10),
         (Call::Deliver(0), 0),
-        (Call::Dirty(2, 0), 0),
+        (Call::Send(Duty::Dirty, 2, 0), 0),
         (Call::Deliver(0), 0),
-        (Call::DirtyAck(2, 0), 0),
+        (Call::Send(Duty::DirtyAck, 2, 0), 0),
         (Call::Deliver(0), 0),
         (Call::CopyAck(2, 1, 7), 0),
         (Call::Drop(1, 0), 10),
@@ -78,7 +79,7 @@ fn a_copy_in_ok_strikes_the_clean_duty() -> Result<(), Fail> {
         &mut field,
         &[
             (Call::Deliver(0), 0),
-            (Call::Clean(1, 0), 16),
+            (Call::Send(Duty::Clean, 1, 0), 16),
             (Call::CopyAck(1, 0, 1), 0),
         ],
     )?;
@@ -92,18 +93,18 @@ fn a_copy_in_ccit_makes_ccitnil() -> Result<(), Fail> {
     let calls = [
         (Call::Deliver(0), 0),
         (Call::Drop(1, 0), 0),
-        (Call::Clean(1, 0), 0),
+        (Call::Send(Duty::Clean, 1, 0), 0),
         (Call::HandOn(0, 1, 0), 0),
         (Call::Deliver(1), 0),
-        (Call::Dirty(1, 0), 17),
+        (Call::Send(Duty::Dirty, 1, 0), 17),
     ];
     play(&mut field, &calls)?;
     check_eq(field.cell(1, 0).state, State::CcitNil)?;
     let calls = [
         (Call::Deliver(0), 0),
-        (Call::CleanAck(1, 0), 0),
+        (Call::Send(Duty::CleanAck, 1, 0), 0),
         (Call::Deliver(0), 0),
-        (Call::Dirty(1, 0), 0),
+        (Call::Send(Duty::Dirty, 1, 0), 0),
     ];
     play(&mut field, &calls)?;
     check_eq(field.cell(1, 0).state, State::Nil)?;
@@ -143,9 +144,9 @@ fn a_dirty_ack_frees_every_blocked_entry() -> Result<(), Fail> {
         (Call::Deliver(0), 0),
         (Call::Deliver(0), 0),
         (Call::CopyAck(1, 0, 0), 16),
-        (Call::Dirty(1, 0), 0),
+        (Call::Send(Duty::Dirty, 1, 0), 0),
         (Call::Deliver(0), 0),
-        (Call::DirtyAck(1, 0), 0),
+        (Call::Send(Duty::DirtyAck, 1, 0), 0),
         (Call::Deliver(0), 0),
         (Call::CopyAck(1, 0, 1), 0),
         (Call::CopyAck(1, 0, 0), 0),

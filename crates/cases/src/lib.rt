@@ -1,5 +1,7 @@
 // Worked cases: what the crates below do on examples. The tests are proved and then run.
 #[cfg(test)]
+use cells::Duty;
+#[cfg(test)]
 use field::Field;
 #[cfg(test)]
 use field::modes::Working;
@@ -53,9 +55,9 @@ fn handed_on(first: u32) -> [(Call, u8); 8] {
         (Call::Open(0), 0),
         (Call::HandOn(0, 1, 0), 0),
         (Call::Deliver(0), 0),
-        (Call::Dirty(1, 0), 0),
+        (Call::Send(Duty::Dirty, 1, 0), 0),
         (Call::Deliver(0), 0),
-        (Call::DirtyAck(1, 0), 0),
+        (Call::Send(Duty::DirtyAck, 1, 0), 0),
         (Call::Deliver(0), 0),
         (Call::CopyAck(1, 0, first), 0),
     ]

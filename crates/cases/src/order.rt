@@ -1,6 +1,7 @@
 // The order of refusals: for each call, arguments under which two conditions hold.
 use crate::handed_on;
 use crate::play;
+use cells::Duty;
 use ends::row::Row;
 use ends::row::RowLink;
 use field::Field;
@@ -119,10 +120,10 @@ fn sendings() -> Result<(), Fail> {
     let calls = [
         (Call::CopyAck(OUT, 0, 0), 1),
         (Call::CopyAck(0, OUT, 0), 1),
-        (Call::Dirty(OUT, OUT), 1),
-        (Call::DirtyAck(0, OUT), 2),
-        (Call::Clean(0, OUT), 2),
-        (Call::CleanAck(0, OUT), 2),
+        (Call::Send(Duty::Dirty, OUT, OUT), 1),
+        (Call::Send(Duty::DirtyAck, 0, OUT), 2),
+        (Call::Send(Duty::Clean, 0, OUT), 2),
+        (Call::Send(Duty::CleanAck, 0, OUT), 2),
         (Call::Open(0), 0),
         (Call::HandOn(0, 1, 0), 0),
     ];
@@ -130,10 +131,10 @@ fn sendings() -> Result<(), Fail> {
     // the gate of station 0, the owner, is closed now
     let calls = [
         (Call::CopyAck(0, 1, 0), 16),
-        (Call::Dirty(0, 0), 16),
-        (Call::DirtyAck(1, 0), 16),
-        (Call::Clean(0, 0), 16),
-        (Call::CleanAck(1, 0), 16),
+        (Call::Send(Duty::Dirty, 0, 0), 16),
+        (Call::Send(Duty::DirtyAck, 1, 0), 16),
+        (Call::Send(Duty::Clean, 0, 0), 16),
+        (Call::Send(Duty::CleanAck, 1, 0), 16),
         (Call::Deliver(1), 18),
     ];
     play(&mut field, &calls)
@@ -146,10 +147,10 @@ fn a_dirty_in_ccitnil_before_gates() -> Result<(), Fail> {
     let calls = [
         (Call::Deliver(0), 0),
         (Call::Drop(1, 0), 0),
-        (Call::Clean(1, 0), 0),
+        (Call::Send(Duty::Clean, 1, 0), 0),
         (Call::HandOn(0, 1, 0), 0),
         (Call::Deliver(1), 0),
-        (Call::Dirty(1, 0), 17),
+        (Call::Send(Duty::Dirty, 1, 0), 17),
     ];
     play(&mut field, &calls)
 }
@@ -161,12 +162,12 @@ fn an_ack_asks_the_gate_of_the_owner() -> Result<(), Fail> {
         (Call::Open(0), 0),
         (Call::HandOn(0, 1, 0), 0),
         (Call::Deliver(0), 0),
-        (Call::Dirty(1, 0), 0),
+        (Call::Send(Duty::Dirty, 1, 0), 0),
         (Call::Deliver(0), 0),
         (Call::HandOn(0, 2, 0), 0),
-        (Call::DirtyAck(1, 0), 15),
+        (Call::Send(Duty::DirtyAck, 1, 0), 15),
         (Call::Deliver(0), 0),
-        (Call::DirtyAck(1, 0), 0),
+        (Call::Send(Duty::DirtyAck, 1, 0), 0),
     ];
     play(&mut field, &calls)
 }

@@ -1,6 +1,7 @@
 // A day of one trace on a field of three stations, over a share of two on a row. A gauge opens the trace and
 // records into it, hands it on to a logger, and the logger hands it on to a relay; packets overtake each
 // other; the owner may erase the trace once nobody refers to it any more.
+use cells::Duty;
 use ends::row::Row;
 use ends::row::RowLink;
 use field::Field;
@@ -95,10 +96,10 @@ fn in_words(call: Call) -> (u8, &'static str, u8) {
         Call::GiveBack(s, t) => (s, "gives back a use of", t),
         Call::Drop(s, t) => (s, "drops", t),
         Call::Erase(s, t) => (s, "erases", t),
-        Call::Dirty(s, t) => (s, "sends dirty for", t),
-        Call::DirtyAck(s, t) => (s, "is sent dirty ack for", t),
-        Call::Clean(s, t) => (s, "sends clean for", t),
-        Call::CleanAck(s, t) => (s, "is sent clean ack for", t),
+        Call::Send(Duty::Dirty, s, t) => (s, "sends dirty for", t),
+        Call::Send(Duty::DirtyAck, s, t) => (s, "is sent dirty ack for", t),
+        Call::Send(Duty::Clean, s, t) => (s, "sends clean for", t),
+        Call::Send(Duty::CleanAck, s, t) => (s, "is sent clean ack for", t),
         _ => (0, "", 0),
     }
 }
@@ -225,9 +226,9 @@ fn list_logger() -> [Line; 7] {
         Line::Report,
         Line::Make(Call::Deliver(0)),
         Line::Make(Call::Deliver(0)),
-        Line::Make(Call::Dirty(LOGGER, TRACE)),
+        Line::Make(Call::Send(Duty::Dirty, LOGGER, TRACE)),
         Line::Make(Call::Deliver(0)),
-        Line::Make(Call::DirtyAck(LOGGER, TRACE)),
+        Line::Make(Call::Send(Duty::DirtyAck, LOGGER, TRACE)),
         Line::Make(Call::Deliver(0)),
     ]
 }
@@ -252,9 +253,9 @@ fn overtake() -> [Line; 9] {
 fn list_relay() -> [Line; 9] {
     [
         Line::Make(Call::Deliver(0)),
-        Line::Make(Call::Dirty(RELAY, TRACE)),
+        Line::Make(Call::Send(Duty::Dirty, RELAY, TRACE)),
         Line::Make(Call::Deliver(0)),
-        Line::Make(Call::DirtyAck(RELAY, TRACE)),
+        Line::Make(Call::Send(Duty::DirtyAck, RELAY, TRACE)),
         Line::Make(Call::Deliver(0)),
         Line::Make(Call::CopyAck(RELAY, LOGGER, 100)),
         Line::Make(Call::Drop(LOGGER, TRACE)),
@@ -267,9 +268,9 @@ fn list_relay() -> [Line; 9] {
 fn clean() -> [Line; 10] {
     [
         Line::Report,
-        Line::Make(Call::Clean(LOGGER, TRACE)),
+        Line::Make(Call::Send(Duty::Clean, LOGGER, TRACE)),
         Line::Make(Call::Drop(RELAY, TRACE)),
-        Line::Make(Call::Clean(RELAY, TRACE)),
+        Line::Make(Call::Send(Duty::Clean, RELAY, TRACE)),
         Line::Make(Call::Deliver(1)),
         Line::Make(Call::Erase(GAUGE, TRACE)),
         Line::Make(Call::Deliver(0)),
@@ -282,8 +283,8 @@ fn clean() -> [Line; 10] {
 // The last acks are still on their way when the trace is gone.
 fn end() -> [Line; 6] {
     [
-        Line::Make(Call::CleanAck(LOGGER, TRACE)),
-        Line::Make(Call::CleanAck(RELAY, TRACE)),
+        Line::Make(Call::Send(Duty::CleanAck, LOGGER, TRACE)),
+        Line::Make(Call::Send(Duty::CleanAck, RELAY, TRACE)),
         Line::Make(Call::Deliver(0)),
         Line::Make(Call::Deliver(0)),
         Line::Make(Call::Deliver(0)),

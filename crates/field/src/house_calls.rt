@@ -1,7 +1,6 @@
 // The calls that the house makes for the stations, sendings and deliveries, in a field of any mode.
 ghost use Rattle.protocol.specs.Delivery.{delivering};
 ghost use Rattle.protocol.specs.HouseCalls.{sending, sending-copy-ack};
-ghost use Rattle.cells.specs.declared.Duty.the-variants.{Clean, CleanAck, Dirty, DirtyAck};
 ghost use Rattle.field.specs.Carried.{Carried};
 use crate::Field;
 use crate::modes::Mode;
@@ -20,8 +19,9 @@ use tables::entries::DueFrom;
 use tables::entries::MatchesDueFrom;
 
 impl<L: Link, M: Mode> Field<L, M> {
-    // Does a duty of a station and a trace.
-    fn send(&mut self, duty: Duty, station: u8, trace: u8) -> Result<(), Refusal>
+    // Sends what a duty of a station and a trace asks for: dirty or clean from the station to the owner, dirty
+    // ack or clean ack from the owner to the station.
+    pub fn send(&mut self, duty: Duty, station: u8, trace: u8) -> Result<(), Refusal>
         ensures { λ r. ⌜ Carried (L·Link .meaning) (M·Mode .counted) (sending duty station trace) (now (self .entry)) (now (self .exit)) r ⌝ }
     {
         let cell = may_send(&self.tables, duty, station, trace)?;
@@ -30,34 +30,6 @@ impl<L: Link, M: Mode> Field<L, M> {
         self.tables.set_cell(station, trace, done(duty, cell));
         self.mode.count();
         Ok(())
-    }
-
-    // Sends a station's dirty call for a trace to the owner.
-    pub fn send_dirty(&mut self, station: u8, trace: u8) -> Result<(), Refusal>
-        ensures { λ r. ⌜ Carried (L·Link .meaning) (M·Mode .counted) (sending Dirty station trace) (now (self .entry)) (now (self .exit)) r ⌝ }
-    {
-        self.send(Duty::Dirty, station, trace)
-    }
-
-    // Sends the owner's dirty ack for a trace to a station.
-    pub fn send_dirty_ack(&mut self, station: u8, trace: u8) -> Result<(), Refusal>
-        ensures { λ r. ⌜ Carried (L·Link .meaning) (M·Mode .counted) (sending DirtyAck station trace) (now (self .entry)) (now (self .exit)) r ⌝ }
-    {
-        self.send(Duty::DirtyAck, station, trace)
-    }
-
-    // Sends a station's clean call for a trace to the owner.
-    pub fn send_clean(&mut self, station: u8, trace: u8) -> Result<(), Refusal>
-        ensures { λ r. ⌜ Carried (L·Link .meaning) (M·Mode .counted) (sending Clean station trace) (now (self .entry)) (now (self .exit)) r ⌝ }
-    {
-        self.send(Duty::Clean, station, trace)
-    }
-
-    // Sends the owner's clean ack for a trace to a station.
-    pub fn send_clean_ack(&mut self, station: u8, trace: u8) -> Result<(), Refusal>
-        ensures { λ r. ⌜ Carried (L·Link .meaning) (M·Mode .counted) (sending CleanAck station trace) (now (self .entry)) (now (self .exit)) r ⌝ }
-    {
-        self.send(Duty::CleanAck, station, trace)
     }
 
     // Sends the copy ack that is due at a station for a packet number of a sender.

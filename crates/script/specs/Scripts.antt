@@ -9,9 +9,8 @@ use Rattle.protocol.specs.Delivery.{delivering}
 use Rattle.protocol.specs.HouseCalls.{sending, sending-copy-ack}
 use Rattle.protocol.specs.UserCalls.{dropping, erasing, giving-back, handing-on, making-use, opening}
 use Rattle.protocol.specs.declared.refusal.Refusal.{Refusal}
-use Rattle.cells.specs.declared.Duty.the-variants.{Clean as a-clean, CleanAck as a-clean-ack, Dirty as a-dirty, DirtyAck as a-dirty-ack}
 use Rattle.script.specs.declared.Call.{Call}
-use Rattle.script.specs.declared.Call.the-variants.{Open, Use, GiveBack, HandOn, Drop, Erase, CopyAck, Dirty, DirtyAck, Clean, CleanAck, Deliver}
+use Rattle.script.specs.declared.Call.the-variants.{Open, Use, GiveBack, HandOn, Drop, Erase, CopyAck, Send, Deliver}
 
 -- the answers of all calls as one type: a number, or nothing but that it was done
 abbrev pub just : ℕ → Option ℕ
@@ -40,8 +39,5 @@ step-of (HandOn s d t) = answering just (handing-on s d t)
 step-of (Drop s t) = answering nothing (dropping s t)
 step-of (Erase s t) = answering nothing (erasing s t)
 step-of (CopyAck s p k) = answering nothing (sending-copy-ack s p k)
-step-of (Dirty s t) = answering nothing (sending a-dirty s t)
-step-of (DirtyAck s t) = answering nothing (sending a-dirty-ack s t)
-step-of (Clean s t) = answering nothing (sending a-clean s t)
-step-of (CleanAck s t) = answering nothing (sending a-clean-ack s t)
+step-of (Send duty s t) = answering nothing (sending duty s t)
 step-of (Deliver place) = answering nothing (delivering place)

@@ -2,13 +2,14 @@
 ghost use mathlib.Core.Path.{_≡_};
 ghost use Rattle.field.specs.Carried.{Carried};
 ghost use Rattle.script.specs.Scripts.{answered, just, nothing, step-of};
+use cells::Duty;
 use field::Field;
 use field::modes::Working;
 use field::modes::WorkingMode;
 use link::interface::Link;
 use protocol::refusal::Refusal;
 
-// A call with its arguments: the station, the other station, the trace or the packet number, or the place.
+// A call with its arguments: the duty, the station, the other station, the trace or the packet number, or the place.
 #[derive(Clone, Copy)]
 pub enum Call {
     Open(u8),
@@ -18,10 +19,7 @@ pub enum Call {
     Drop(u8, u8),
     Erase(u8, u8),
     CopyAck(u8, u8, u32),
-    Dirty(u8, u8),
-    DirtyAck(u8, u8),
-    Clean(u8, u8),
-    CleanAck(u8, u8),
+    Send(Duty, u8, u8),
     Deliver(u32),
 }
 
@@ -71,10 +69,7 @@ pub fn carry_out<L: Link>(field: &mut Field<L, Working>, call: Call) -> Result<O
             sender,
             packet,
         )),
-        Call::Dirty(station, trace) => done(field.send_dirty(station, trace)),
-        Call::DirtyAck(station, trace) => done(field.send_dirty_ack(station, trace)),
-        Call::Clean(station, trace) => done(field.send_clean(station, trace)),
-        Call::CleanAck(station, trace) => done(field.send_clean_ack(station, trace)),
+        Call::Send(duty, station, trace) => done(field.send(duty, station, trace)),
         Call::Deliver(place) => done(field.deliver(place)),
     }
 }
