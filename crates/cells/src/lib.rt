@@ -1,4 +1,6 @@
 // What a field keeps for one station and one trace.
+#![tactic(auto)]
+
 ghost use Rattle.std.specs.Prelude.{◌≡◌};
 ghost use Rattle.cells.specs.Cells.{awaiting, awaits, blank, given_back, holds, in_state, owes, used, with_duty, with_listed};
 

@@ -38,7 +38,7 @@ impl<L: Link> Link for Share<L> {
     ghost lawful = { λ l. shared_lawful l.limit _ (L.Link.lawful l.below) };
 
     fn clear(&mut self)
-        ensures self_after { (share_meaning L.Link.meaning self.new).bag ≡ [] }
+        ensures cleared { (share_meaning L.Link.meaning self.new).bag ≡ [] }
         ensures limit_unchanged { self.new.limit ≡ self.old.limit }
     {
         self.below.clear();

@@ -1,4 +1,5 @@
 // The 128 places of a link that stands alone, in which messages wait in the order of posting.
+#![tactic(auto)]
 ghost use Rattle.std.specs.Prelude.{◌≡◌, ◌≤◌, false, [], length, is_ok, count_by};
 ghost use Rattle.std.specs.List.{slice_get};
 ghost use Rattle.slots.specs.Entries.{Packed, entries, first, without};

@@ -1,5 +1,7 @@
 // Tables of entries over lent slices: one text for placing an entry, striking one that matches a key
 // and counting those that match. A place is `None` where it is empty, and an empty place matches nothing.
+#![tactic(auto)]
+
 ghost use Rattle.std.specs.Prelude.{◌≡◌, ◌+◌, ◌<◌, Bool, true, [], ◌∷◌, length, is_some, is_ok, if◌then◌else◌, Some, MatchOption, nat_lt};
 ghost use Rattle.slots.specs.Entries.{Found, entries, first, hit, placed, struck, times};
 

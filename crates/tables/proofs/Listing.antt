@@ -1,5 +1,5 @@
 -- Counting the stations that an owner lists, one after the other.
-use Rattle.std.proofs.Common.{◌≡◌, ℕ, ◌+◌, ◌≤◌, Bool, cond, sym, ap, ◌∙◌, add-one}
+use Rattle.std.proofs.Common.{◌≡◌, ℕ, ◌+◌, Bool, cond, ap, ◌∙◌, add-one}
 use Rattle.tables.specs.Kept.{cell_at, listed_below}
 use Rattle.tables.specs.declared.tables.Tables.{Tables}
 

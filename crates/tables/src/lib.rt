@@ -1,3 +1,5 @@
 // The records that a field keeps, and their small changes.
+#![tactic(auto)]
+
 pub mod entries;
 pub mod tables;

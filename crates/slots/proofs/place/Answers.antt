@@ -6,11 +6,11 @@ use Rattle.slots.proofs.Laws.{room_from_times, times-placed}
 use Rattle.slots.proofs.Places.{placed_at, room_at, taken_more, placed_full}
 use Rattle.slots.proofs.place.Goals as goal
 
-pub returns-then-is-none : goal.returns-then-is-none
-returns-then-is-none g c =
+pub returns-then-is_none : goal.returns-then-is_none
+returns-then-is_none g c =
     let same = c.loop-i.invariant.1 in
     let within : c.loop-i.i < length c.loop-i.slots = omega arith in
-    let empty = c.if-is-none.ensures in
+    let empty = c.if-is_none.ensures in
     let room = rw same at (room_at _ _ _ within empty) in
     let after = placed_at _ _ _ _ within c.loop-i.invariant.0 empty ∙ ap (placed c.args.entry) same in
     record {
@@ -22,7 +22,7 @@ returns-then-is-none g c =
 
 pub loop-i-preserved : goal.loop-i-preserved
 loop-i-preserved g c =
-    (taken_more _ _ _ (omega arith) c.loop-i.invariant.0 c.if-is-none.ensures, c.loop-i.invariant.1)
+    (taken_more _ _ _ (omega arith) c.loop-i.invariant.0 c.if-is_none.ensures, c.loop-i.invariant.1)
 
 pub returns : goal.returns
 returns g c =

@@ -8,4 +8,4 @@ loop-trace-init g c = refl
 
 pub loop-trace-preserved : goal.loop-trace-preserved
 unfolding filled
-loop-trace-preserved g c = rw (add-one, c.row-of.ensures, c.loop-trace.invariant, c.from-in-loop-trace.ensures) refl
+loop-trace-preserved g c = rw (add-one, c.row_of.ensures, c.loop-trace.invariant, c.from-in-loop-trace.ensures) refl

@@ -6,8 +6,8 @@ use Rattle.link.specs.Gates.{passed}
 use Rattle.places.proofs.Room.{open_passed, room_open}
 use Rattle.places.proofs.Places.post.Goals as goal
 
-pub invariant-of-self : goal.invariant-of-self
-invariant-of-self c =
+pub invariant_of-self : goal.invariant_of-self
+invariant_of-self c =
     let before = c.args.self.now in
     let after = c.place.ensures.after in
     (ap length after ∙ length-placed _ _ ∙ before.sized, (subst Packed (sym after) (packed_placed _ _ before.packed), tt))
@@ -15,7 +15,7 @@ invariant-of-self c =
 pub returns : goal.returns
 returns c =
     let before = c.args.self.now in
-    let answer = sym (ap passed (sym c.gate.ensures) ∙ sym c.in-ok-pass.ensures) in
+    let answer = sym (ap passed (sym c.gate.ensures) ∙ sym c.in_ok-pass.ensures) in
     let room = room_open _ _ before.sized (open_passed _ (sym answer)) in
     record {
       value = answer;

@@ -3,8 +3,8 @@ use Rattle.slots.specs.Entries.{Packed, entries}
 use Rattle.slots.proofs.Laws.{entries-struck, length-struck, packed_struck}
 use Rattle.places.proofs.Places.strike.Goals as goal
 
-pub invariant-of-self : goal.invariant-of-self
-invariant-of-self c =
+pub invariant_of-self : goal.invariant_of-self
+invariant_of-self c =
     let before = c.args.self.now in
     let after = c.strike.ensures.after in
     (ap length after ∙ length-struck _ _ ∙ before.sized, (subst Packed (sym after) (packed_struck _ _ before.packed), tt))

@@ -9,8 +9,8 @@ use Rattle.ends.proofs.row.RowLink.take.Goals as goal
 pub returns : goal.returns
 returns c =
     let line = queue c.args.self.now in
-    let message = c.in-ok-message.message in
-    let at = sym c.in-ok-message.ensures in
+    let message = c.in_ok-message.message in
+    let at = sym c.in_ok-message.ensures in
     let waits : 0 < often message line = omega (arith, often-nth (fronts [] line) c.args.place message at, fronts_drawn [] line message) in
     let struck = c.strike.ensures in
     let answer = struck.value ∙ first_same _ _ waits in

@@ -7,4 +7,9 @@ pub returns : goal.returns
 returns g c =
     let below = g.L.Link.meaning in
     let limit = c.args.self.now.limit in
-    (taken_through below (share_meaning below) _ _ _ _ _ _ refl refl (λ same i. record { below = same i; limit = limit }) c.take.ensures, refl)
+    record {
+      taken =
+          taken_through below (share_meaning below) _ _ _ _ _ _ refl refl (λ same i. record { below = same i; limit = limit })
+          c.take.ensures;
+      limit_unchanged = refl;
+    }
