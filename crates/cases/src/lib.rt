@@ -1,5 +1,6 @@
 // Worked cases: what the crates below do on examples. The tests are proved and then run.
 #![tactic(auto)]
+
 #[cfg(test)]
 use cells::Duty;
 #[cfg(test)]

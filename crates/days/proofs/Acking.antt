@@ -1,15 +1,14 @@
 -- Copy acks: one is sent for a due received entry, and strikes the sent entry when it is delivered.
-use Rattle.std.proofs.Common.{◌≡◌, ℕ, ◌+◌, ◌<◌, ◌≤◌, Bool, true, false, not, ◌&&◌, eqb, List, length, is_some, Some, None, Option, sym, refl, ap, ◌∙◌, subst, arith}
+use Rattle.std.proofs.Common.{◌≡◌, ℕ, ◌+◌, Bool, true, not, ◌&&◌, eqb, List, is_some, Some, None, Option, sym, refl, ap, ◌∙◌, subst, arith}
 use Rattle.std.proofs.lemmas.Bool.{and_left, and_parts, eqb-true, not-false, not_from_true}
 use Rattle.slots.specs.Entries.{first, struck, times}
 use Rattle.slots.proofs.Laws.{first_found, first_passes, length-struck}
 use Rattle.link.specs.Kinds.{kind_number}
 use Rattle.link.specs.Meaning.{Meaning}
-use Rattle.link.specs.Messages.{of_kind, often}
 use Rattle.link.specs.declared.message.Kind.TheVariants.{CopyAck}
 use Rattle.link.specs.declared.message.Message.{Message}
 use Rattle.tables.specs.Copies.{due_from, same_hand_on}
-use Rattle.tables.specs.Kept.{with_received, with_sent}
+use Rattle.tables.specs.Kept.{with_received}
 use Rattle.tables.specs.declared.entries.HandOn.{HandOn}
 use Rattle.tables.specs.declared.entries.Received.{Received}
 use Rattle.tables.specs.declared.tables.Tables.{Tables}

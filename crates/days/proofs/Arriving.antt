@@ -1,10 +1,9 @@
 -- The delivery of dirties, cleans and their acks.
-use Rattle.std.proofs.Common.{◌≡◌, ℕ, ◌+◌, ◌<◌, ◌≤◌, Bool, true, false, not, List, map, Some, sym, refl, ap, ◌∙◌, arith}
-use Rattle.slots.specs.Entries.{times}
+use Rattle.std.proofs.Common.{◌≡◌, ℕ, ◌+◌, true, false, List, map, Some, sym, refl, ap, arith}
 use Rattle.link.specs.Messages.{often}
 use Rattle.link.specs.declared.message.Message.{Message}
 use Rattle.link.specs.declared.message.Kind.TheVariants.{Clean as a_clean, CleanAck as a_clean_ack, Dirty as a_dirty, DirtyAck as a_dirty_ack}
-use Rattle.cells.specs.Cells.{holds, in_state, is_ccit, is_ccitnil, is_nil, is_ok, with_duty, with_listed}
+use Rattle.cells.specs.Cells.{in_state, is_ccit, is_ccitnil, with_duty, with_listed}
 use Rattle.cells.specs.declared.Duty.{Duty}
 use Rattle.cells.specs.declared.Duty.TheVariants.{Clean, CleanAck, Dirty, DirtyAck}
 use Rattle.cells.specs.declared.State.{State}
@@ -13,11 +12,11 @@ use Rattle.tables.specs.Copies.{freed}
 use Rattle.tables.specs.Kept.{cell_at}
 use Rattle.tables.specs.declared.tables.Tables.{Tables}
 use Rattle.protocol.specs.Delivery.{clean_ack_comes, delivered}
-use Rattle.days.proofs.Calm.{Calm, calm_taken, confirmed, keep_calm, sender_holds, untouched}
+use Rattle.days.proofs.Calm.{calm_taken, confirmed, keep_calm, sender_holds, untouched}
 use Rattle.days.proofs.Counted.{freed_here}
 use Rattle.days.proofs.Facts.{awaiting_keeps, known_from}
 use Rattle.days.proofs.Messages.{More, due, more_due, same_duty}
-use Rattle.days.proofs.Pictures.{Fits, bit, bit_le, fits_clean_ack_ends, fits_clean_ack_frees, fits_clean_comes, fits_dirty_ack_comes, fits_dirty_comes, held_bits, one_state, recount, with_seen}
+use Rattle.days.proofs.Pictures.{bit, fits_clean_ack_ends, fits_clean_ack_frees, fits_clean_comes, fits_dirty_ack_comes, fits_dirty_comes, held_bits, one_state, recount}
 use Rattle.days.proofs.Sound.{Sound, owner_of, seen}
 
 module _ (s t : ℕ) (T : Tables) (bag bag' : List Message) (sound : Sound T bag) where

@@ -1,6 +1,6 @@
 -- Calls that leave all copies and copy acks on the link as they are: nothing waits more or less but messages
 -- between one station and the owner about one trace.
-use Rattle.std.proofs.Common.{◌≡◌, ℕ, ◌+◌, ◌<◌, ◌≤◌, Bool, true, false, ◌&&◌, eqb, List, map, length, count_by, Option, sym, refl, ap, ◌∙◌, subst, arith}
+use Rattle.std.proofs.Common.{◌≡◌, ℕ, ◌+◌, ◌<◌, true, List, map, length, count_by, Option, sym, refl, ◌∙◌, subst, arith}
 use Rattle.slots.specs.Entries.{times}
 use Rattle.link.specs.Messages.{of_kind, often}
 use Rattle.link.specs.declared.message.Message.{Message}
@@ -15,9 +15,9 @@ use Rattle.tables.specs.declared.entries.Received.{Received}
 use Rattle.tables.specs.declared.tables.Tables.{Tables}
 use Rattle.days.proofs.Counted.{blocked_at, freed_all, freed_copies, freed_elsewhere, length-freed, received_of}
 use Rattle.days.proofs.Messages.{More, ack_not_due, ack_of, copy_not_due, copy_of, due, due_apart, less_often, more_cases, more_due, more_kind, more_other}
-use Rattle.days.proofs.Pictures.{Fits, Seen, bit, with_seen}
+use Rattle.days.proofs.Pictures.{Fits, with_seen}
 use Rattle.days.proofs.Sound.{Shaped, Sound, a_due, owner_of, seen}
-use Rattle.days.proofs.Touch.{Apart, Touch, keep, touched}
+use Rattle.days.proofs.Touch.{Apart, keep, touched}
 
 pub record Calm (T : Tables) (bag bag' : List Message) (s t : ℕ) : Type 0 where
   pub elsewhere : (duty : Duty) (s' o t' : ℕ) → Apart s t s' t' → often (due duty s' o t') bag' ≡ often (due duty s' o t') bag

@@ -1,35 +1,25 @@
 -- What a sound field promises: no list is empty early, every message is in place, lists are exact, few wait.
-use Rattle.std.proofs.Common.{◌≡◌, ℕ, zero, suc, ◌+◌, ◌*◌, ◌<◌, ◌≤◌, Bool, true, false, cond, not, ◌&&◌, ◌||◌, eqb, ltb, ◌≢◌, List, [], ◌∷◌, length, get_or, sum_by, sym, refl, ap, ◌∙◌, subst, ⊎_elim, arith}
+use Rattle.std.proofs.Common.{◌≡◌, ℕ, suc, ◌+◌, ◌*◌, ◌<◌, ◌≤◌, Bool, true, false, ◌&&◌, ◌||◌, ltb, List, [], ◌∷◌, length, get_or, sum_by, sym, refl, ap, ◌∙◌, subst, ⊎_elim, arith}
 use Rattle.std.proofs.lemmas.List.Sums.{sum_by-cons}
-use Rattle.std.proofs.lemmas.Bool.{and_from, cases_Bool, eq-eqb, eqb-false, le-ltb, lt-ltb, ne_eqb, not_from_true, or_cases, or_from, or_left, or_right}
+use Rattle.std.proofs.lemmas.Bool.{cases_Bool, eq-eqb, ne_eqb, or_cases}
 use Rattle.std.proofs.lemmas.Bool.Decides.{nat_tests}
-use Rattle.slots.specs.Entries.{times, without}
 use Rattle.slots.proofs.Counts.{times_le}
-use Rattle.link.specs.Kinds.{kind_number, kind_of}
-use Rattle.link.specs.Messages.{of_kind, often, same}
-use Rattle.link.specs.declared.message.Kind.TheVariants.{Copy}
+use Rattle.link.specs.Messages.{often}
 use Rattle.link.specs.declared.message.Message.{Message}
-use Rattle.link.proofs.Bags.{often-without}
-use Rattle.cells.specs.Cells.{awaits, holds, is_ccit, is_ccitnil, is_nil, is_ok}
+use Rattle.cells.specs.Cells.{awaits, is_ccitnil, is_nil, is_ok}
 use Rattle.cells.specs.declared.Cell.{Cell}
-use Rattle.cells.specs.declared.Duty.{Duty}
-use Rattle.cells.specs.declared.Duty.TheVariants.{Clean, CleanAck, Dirty, DirtyAck}
-use Rattle.tables.specs.Copies.{same_hand_on}
-use Rattle.tables.specs.Kept.{cell_at, list_empty, trace_at}
+use Rattle.tables.specs.Kept.{cell_at, list_empty}
 use Rattle.tables.specs.declared.entries.HandOn.{HandOn}
 use Rattle.tables.specs.declared.tables.Tables.{Tables}
-use Rattle.protocol.specs.Delivery.{handed, misplaced, out_of_place}
-use Rattle.protocol.specs.Known.{in_field, is_opened}
+use Rattle.protocol.specs.Delivery.{handed}
 use Rattle.days.specs.Days.{Situation}
-use Rattle.days.specs.Promises.{AllInPlace, FewWait, ListsExact, NoListEmptyEarly}
-use Rattle.days.proofs.Copying.{room}
+use Rattle.days.specs.Promises.{FewWait, ListsExact, NoListEmptyEarly}
 use Rattle.days.proofs.Counted.{total}
-use Rattle.days.proofs.Facts.{Awaited, ack_stands, awaited, bit_false, bit_true, copy_stands, holder_known, holder_listed, known_from}
+use Rattle.days.proofs.Facts.{awaited, bit_false, copy_stands, holder_listed}
 use Rattle.days.proofs.Lists.{Empty, empty_list, sent_keeps_list}
-use Rattle.days.proofs.Messages.{More, ack_of, copy_of, due}
-use Rattle.days.proofs.Opening.{waits_busy}
-use Rattle.days.proofs.Pictures.{bit, bit_le, one_state, owns_not, owns_or_erased}
-use Rattle.days.proofs.Sound.{Shaped, Sound, Standing, a_copy, a_due, an_ack, awaiting_of, cleaning_of, owner_of, seen}
+use Rattle.days.proofs.Messages.{copy_of}
+use Rattle.days.proofs.Pictures.{bit, one_state, owns_not, owns_or_erased}
+use Rattle.days.proofs.Sound.{Sound, awaiting_of, cleaning_of, owner_of, seen}
 
 -- what a list that is not empty would contradict makes it not empty
 not_empty : (T : Tables) (t : ℕ) → (Empty T t → ⊥) → list_empty T t ≡ false

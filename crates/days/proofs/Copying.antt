@@ -1,12 +1,11 @@
 -- The delivery of a copy: a received entry is added, and a station that had nothing to do with the trace, or
 -- is in ccit, awaits it from now on.
-use Rattle.std.proofs.Common.{◌≡◌, ℕ, ◌+◌, ◌<◌, ◌≤◌, Bool, true, false, not, ◌&&◌, eqb, ltb, List, [], length, get_or, set, Some, Option, sym, refl, ap, ◌∙◌, subst, arith}
+use Rattle.std.proofs.Common.{◌≡◌, ℕ, ◌+◌, ◌<◌, ◌≤◌, Bool, true, false, not, ◌&&◌, eqb, ltb, List, [], get_or, set, Some, Option, sym, refl, ap, ◌∙◌, subst, arith}
 use Rattle.std.proofs.lemmas.List.{set-get_or}
 use Rattle.std.proofs.lemmas.Bool.{and_from, and_right, eq-eqb, lt-ltb}
 use Rattle.slots.specs.Entries.{placed, times}
 use Rattle.slots.proofs.Counts.{times_le}
 use Rattle.slots.proofs.Laws.{length-placed}
-use Rattle.link.specs.Messages.{of_kind, often}
 use Rattle.link.specs.declared.message.Kind.TheVariants.{Copy}
 use Rattle.link.specs.declared.message.Message.{Message}
 use Rattle.cells.specs.Cells.{awaiting, blank, holds, is_ccit, is_ccitnil, is_nil, is_ok, with_duty}
@@ -15,7 +14,7 @@ use Rattle.cells.specs.declared.Duty.TheVariants.{Clean, CleanAck, Dirty, DirtyA
 use Rattle.cells.specs.declared.State.{State}
 use Rattle.cells.specs.declared.State.TheVariants.{None, Nil, Ok, Ccit, CcitNil}
 use Rattle.tables.specs.Copies.{same_hand_on}
-use Rattle.tables.specs.Kept.{cell_at, in_tables, trace_at, with_cell, with_received}
+use Rattle.tables.specs.Kept.{cell_at, in_tables, with_cell, with_received}
 use Rattle.tables.specs.declared.entries.HandOn.{HandOn}
 use Rattle.tables.specs.declared.entries.Received.{Received}
 use Rattle.tables.specs.declared.tables.Tables.{Tables}
@@ -26,9 +25,9 @@ use Rattle.days.proofs.Exchange.{copy_aside}
 use Rattle.days.proofs.Facts.{bit_false, copy_stands, holder_keeps, holder_known}
 use Rattle.days.proofs.HandingOn.{placed_counts}
 use Rattle.days.proofs.Messages.{More, ack_not_copy, ack_of, copies_alike, copy_of, due, less_often, more_kind, more_often, more_other, more_same}
-use Rattle.days.proofs.Pictures.{Fits, Seen, bit, bit_le, fits_copy_again, fits_copy_in_ccit, fits_copy_in_none, fits_copy_in_ok, held_bits, one_state, owns_or_erased, recount, with_blocked, with_seen}
+use Rattle.days.proofs.Pictures.{Fits, bit, fits_copy_again, fits_copy_in_ccit, fits_copy_in_none, fits_copy_in_ok, held_bits, owns_or_erased, recount, with_blocked, with_seen}
 use Rattle.days.proofs.Sound.{Sound, Standing, owner_of, seen}
-use Rattle.days.proofs.Touch.{Apart, inside, keep, touched}
+use Rattle.days.proofs.Touch.{inside, keep, touched}
 
 -- a cell put back where it was
 cell_back : (T : Tables) (s t : ℕ) → in_tables s t ≡ true → with_cell s t (cell_at T s t) T ≡ T

@@ -1,10 +1,10 @@
 -- Counts over tables of entries, and sums over all cells.
-use Rattle.std.proofs.Common.{◌≡◌, ℕ, ◌+◌, ◌<◌, ◌≤◌, Bool, true, false, cond, not, ◌&&◌, ◌||◌, eqb, List, [], ◌∷◌, map, length, get_or, set, Some, None, sum_by, Option, sym, refl, ap, ◌∙◌, ⊎_elim, arith}
+use Rattle.std.proofs.Common.{◌≡◌, ℕ, ◌+◌, ◌<◌, ◌≤◌, Bool, true, false, not, ◌&&◌, ◌||◌, eqb, List, [], ◌∷◌, map, length, get_or, set, Some, None, sum_by, Option, sym, refl, ap, ◌∙◌, ⊎_elim, arith}
 use Rattle.std.proofs.lemmas.List.Sums.{sum_by-set}
-use Rattle.std.proofs.lemmas.Bool.{and_cases, and_from, and_left, and_parts, and_right, cases_Bool, cond-true, eq-eqb, eqb-true}
-use Rattle.slots.specs.Entries.{entries, first, struck, times}
+use Rattle.std.proofs.lemmas.Bool.{and_from, and_parts, cases_Bool, eq-eqb, eqb-true}
+use Rattle.slots.specs.Entries.{first, struck, times}
 use Rattle.slots.proofs.Counts.{times_le, times_none, times_some}
-use Rattle.slots.proofs.Laws.{first_found, first_passes, times-struck}
+use Rattle.slots.proofs.Laws.{times-struck}
 use Rattle.cells.specs.Cells.{blank}
 use Rattle.cells.specs.declared.Cell.{Cell}
 use Rattle.tables.specs.Copies.{freed, same_hand_on}
@@ -12,7 +12,7 @@ use Rattle.tables.specs.Kept.{cell_at, in_tables, with_cell}
 use Rattle.tables.specs.declared.entries.HandOn.{HandOn}
 use Rattle.tables.specs.declared.entries.Received.{Received}
 use Rattle.tables.specs.declared.tables.Tables.{Tables}
-use Rattle.days.proofs.Pictures.{bit, bit_le}
+use Rattle.days.proofs.Pictures.{bit}
 
 -- a blocked entry of a station and a trace
 abbrev pub blocked_at : ℕ → ℕ → Received → Bool

@@ -1,25 +1,20 @@
 -- A field that was just rigged, over a cleared link, is sound.
-use Rattle.std.proofs.Common.{◌≡◌, ℕ, ◌+◌, ◌<◌, ◌≤◌, Bool, true, false, cond, ◌&&◌, eqb, ltb, List, [], length, get_or, replicate, Some, None, Option, sym, refl, ap, ◌∙◌, subst, ⊎_elim, arith}
+use Rattle.std.proofs.Common.{◌≡◌, ℕ, ◌≤◌, Bool, true, eqb, ltb, [], length, get_or, replicate, None, sym, refl, ap, ◌∙◌, subst, ⊎_elim, arith}
 use Rattle.std.proofs.lemmas.List.{get_or-replicate, length-replicate}
 use Rattle.std.proofs.lemmas.Bool.{and_parts, and_right, cases_Bool, cond-false, cond-true, le-ltb, ltb-true}
 use Rattle.slots.specs.Entries.{entries, times}
-use Rattle.link.specs.Messages.{often}
-use Rattle.link.specs.declared.message.Message.{Message}
 use Rattle.link.proofs.Bags.{often-nil}
 use Rattle.cells.specs.Cells.{blank}
-use Rattle.cells.specs.declared.Cell.{Cell}
 use Rattle.cells.specs.declared.Duty.TheVariants.{Clean, CleanAck, Dirty, DirtyAck}
 use Rattle.tables.specs.Kept.{cell_at, in_tables, rigged, trace_at, unopened}
 use Rattle.tables.specs.declared.entries.HandOn.{HandOn}
 use Rattle.tables.specs.declared.entries.Received.{Received}
-use Rattle.tables.specs.declared.tables.Tables.{Tables}
-use Rattle.tables.specs.declared.tables.Trace.{Trace}
 use Rattle.protocol.specs.Known.{in_field, is_opened}
 use Rattle.tables.specs.Copies.{same_hand_on}
 use Rattle.days.proofs.Counted.{blocked_at, received_of, total}
 use Rattle.days.proofs.Messages.{ack_of, copy_of, due}
 use Rattle.days.proofs.Pictures.{Fits, fits_blank}
-use Rattle.days.proofs.Sound.{Shape, Sound, awaiting_of, clean_owed, cleaning_of, dirty_owed, owner_of, seen}
+use Rattle.days.proofs.Sound.{Sound, awaiting_of, clean_owed, cleaning_of, dirty_owed, owner_of, seen}
 
 -- an empty table counts nothing
 no_entries : {E : Type 0} (p : E → Bool) → times p (replicate 64 None) ≡ 0

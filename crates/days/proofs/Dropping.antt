@@ -1,20 +1,19 @@
 -- A drop: the station holds the trace, is not its owner, and has no sent entry of it.
-use Rattle.std.proofs.Common.{◌≡◌, ℕ, ◌<◌, ◌≤◌, Bool, true, false, not, ◌&&◌, eqb, ltb, List, None, ◌∙◌, arith}
+use Rattle.std.proofs.Common.{◌≡◌, ℕ, ◌≤◌, true, eqb, None, ◌∙◌, arith}
 use Rattle.std.proofs.lemmas.Bool.{and_from, and_parts, eq-eqb, eqb-true, ltb-false, not-false}
 use Rattle.slots.specs.Entries.{times}
 use Rattle.link.specs.Meaning.{Meaning}
-use Rattle.link.specs.declared.message.Message.{Message}
 use Rattle.cells.specs.Cells.{holds, with_duty}
 use Rattle.cells.specs.declared.Duty.TheVariants.{Clean}
 use Rattle.tables.specs.Copies.{same_hand_on, sent_by}
-use Rattle.tables.specs.Kept.{cell_at, trace_at}
+use Rattle.tables.specs.Kept.{cell_at}
 use Rattle.tables.specs.declared.entries.HandOn.{HandOn}
 use Rattle.tables.specs.declared.tables.Tables.{Tables}
 use Rattle.protocol.specs.Calls.{first_refusal}
 use Rattle.protocol.specs.UserCalls.{dropping, may_drop}
 use Rattle.protocol.proofs.Checks.{no_condition}
 use Rattle.days.proofs.Calm.{calm_silent, keep_calm, untouched}
-use Rattle.days.proofs.Counted.{same_hand_on_is, times_mono}
+use Rattle.days.proofs.Counted.{times_mono}
 use Rattle.days.proofs.Pictures.{fits_dropped}
 use Rattle.days.proofs.Sound.{Sound, seen}
 use Rattle.days.proofs.Using.{below}

@@ -1,12 +1,12 @@
 -- Erasing a trace: its list is empty, so no sent entry of it stands and nobody else is listed.
-use Rattle.std.proofs.Common.{◌≡◌, ℕ, ◌+◌, ◌<◌, ◌≤◌, Bool, true, false, cond, not, ◌&&◌, eqb, ltb, ◌≢◌, List, length, get_or, set, None as nothing, sym, refl, ap, ◌∙◌, subst, ⊎_elim, arith}
+use Rattle.std.proofs.Common.{◌≡◌, ℕ, ◌<◌, Bool, true, false, cond, eqb, ltb, List, length, get_or, set, None as nothing, sym, refl, ap, ◌∙◌, subst, ⊎_elim, arith}
 use Rattle.std.proofs.lemmas.List.{get_or-set_other, get_or-set_same, length-set}
-use Rattle.std.proofs.lemmas.Bool.{and_left, and_right, cases_eq, cond-true, eq-eqb, eqb-true, lt-ltb, ne_eqb, not-false}
+use Rattle.std.proofs.lemmas.Bool.{and_left, and_right, cases_eq, cond-true, eqb-true, lt-ltb, ne_eqb, not-false}
 use Rattle.slots.specs.Entries.{times}
 use Rattle.link.specs.Meaning.{Meaning}
 use Rattle.link.specs.Messages.{often}
 use Rattle.link.specs.declared.message.Message.{Message}
-use Rattle.cells.specs.Cells.{holds, in_state, is_ccit, is_ccitnil, is_nil, is_ok}
+use Rattle.cells.specs.Cells.{holds, in_state}
 use Rattle.cells.specs.declared.Duty.TheVariants.{Clean, CleanAck, Dirty, DirtyAck}
 use Rattle.cells.specs.declared.State.TheVariants.{None}
 use Rattle.tables.specs.Copies.{same_hand_on}
@@ -15,12 +15,11 @@ use Rattle.tables.specs.declared.entries.HandOn.{HandOn}
 use Rattle.tables.specs.declared.tables.Tables.{Tables}
 use Rattle.tables.specs.declared.tables.Trace.{Trace}
 use Rattle.protocol.specs.Calls.{first_refusal}
-use Rattle.protocol.specs.Known.{in_field, is_opened}
 use Rattle.protocol.specs.UserCalls.{erasing, may_erase}
 use Rattle.protocol.proofs.Checks.{no_condition}
 use Rattle.days.proofs.Lists.{Empty, empty_list, sent_keeps_list}
 use Rattle.days.proofs.Messages.{due}
-use Rattle.days.proofs.Pictures.{Fits, Seen, bit, fits_erased, fits_erased_elsewhere, held_bits, one_state}
+use Rattle.days.proofs.Pictures.{Fits, fits_erased, fits_erased_elsewhere, held_bits, one_state}
 use Rattle.days.proofs.Sound.{Shape, Shaped, Sound, Standing, a_copy, a_due, an_ack, awaiting_of, clean_owed, cleaning_of, dirty_owed, owner_of, seen}
 use Rattle.days.proofs.Touch.{Apart, cell_elsewhere, cell_here, shape_put, total_here}
 use Rattle.days.proofs.Using.{below}

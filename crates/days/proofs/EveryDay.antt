@@ -1,5 +1,5 @@
 -- Every call of a working field keeps it sound, and so does every day.
-use Rattle.std.proofs.Common.{◌≡◌, ℕ, ◌<◌, ◌≤◌, Bool, true, false, List, [], ◌∷◌, Some, None, Option, sym, refl, ap, ◌∙◌, subst, arith}
+use Rattle.std.proofs.Common.{◌≡◌, ℕ, ◌<◌, ◌≤◌, [], Some, None, Option, sym, refl, subst, arith}
 use Rattle.std.specs.List.{slice_get}
 use Rattle.link.specs.Kinds.{kind_of}
 use Rattle.link.specs.Meaning.{Lawful, Meaning}
@@ -10,12 +10,12 @@ use Rattle.cells.specs.declared.Duty.{Duty}
 use Rattle.cells.specs.declared.Duty.TheVariants.{Clean, CleanAck, Dirty, DirtyAck}
 use Rattle.tables.specs.Kept.{rigged}
 use Rattle.tables.specs.declared.tables.Tables.{Tables}
-use Rattle.protocol.specs.Calls.{Call, Radio, Step, first_refusal}
-use Rattle.protocol.specs.Delivery.{delivered, delivering, delivering_offer}
+use Rattle.protocol.specs.Calls.{Call, first_refusal}
+use Rattle.protocol.specs.Delivery.{delivered, delivering_offer}
 use Rattle.protocol.specs.HouseCalls.{sending, sending_copy_ack}
 use Rattle.protocol.specs.Refusals.{Fault}
 use Rattle.protocol.specs.UserCalls.{dropping, erasing, giving_back, handing_on, making_use, opening}
-use Rattle.days.specs.Days.{Called, Day, Leads, LeadsBy, OnEveryDay, Radioed, Situation, acks_copy, begins, delivers, drops, erases, gives_back, goes_on, hands_on, opens, sends, uses}
+use Rattle.days.specs.Days.{Called, Day, LeadsBy, OnEveryDay, Radioed, Situation, acks_copy, begins, delivers, drops, erases, gives_back, goes_on, hands_on, opens, sends, uses}
 use Rattle.days.specs.Promises.{AllInPlace, FewWait, ListsExact, NoListEmptyEarly}
 use Rattle.days.proofs.Acking.{copy_ack_keeps, send_copy_ack_keeps}
 use Rattle.days.proofs.Arriving.{clean_ack_keeps, clean_keeps, dirty_ack_keeps, dirty_keeps}

@@ -1,6 +1,6 @@
 -- Calls about copies and copy acks: no message of a duty waits more or less, and where no entry becomes blocked
 -- or free, no picture changes.
-use Rattle.std.proofs.Common.{◌≡◌, ℕ, ◌+◌, ◌<◌, ◌≤◌, Bool, true, false, List, length, count_by, Option, sym, refl, ap, ◌∙◌, subst, arith}
+use Rattle.std.proofs.Common.{◌≡◌, ℕ, ◌+◌, ◌<◌, true, List, length, count_by, Option, sym, arith}
 use Rattle.slots.specs.Entries.{times}
 use Rattle.link.specs.Messages.{of_kind, often}
 use Rattle.link.specs.declared.message.Message.{Message}
@@ -13,7 +13,7 @@ use Rattle.tables.specs.declared.entries.Received.{Received}
 use Rattle.tables.specs.declared.tables.Tables.{Tables}
 use Rattle.days.proofs.Counted.{blocked_at, received_of}
 use Rattle.days.proofs.Messages.{More, ack_of, copy_of, due, due_not_ack, due_not_copy, more_kind, more_other}
-use Rattle.days.proofs.Pictures.{Fits, recount}
+use Rattle.days.proofs.Pictures.{recount}
 use Rattle.days.proofs.Sound.{Shaped, Sound, Standing, owner_of, seen}
 
 -- two bags with the same messages of duties

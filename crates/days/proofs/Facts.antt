@@ -1,20 +1,20 @@
 -- What follows from soundness at once: about sent entries, copies, and stations that await.
-use Rattle.std.proofs.Common.{◌≡◌, ℕ, zero, suc, ◌+◌, ◌<◌, ◌≤◌, Bool, true, false, cond, not, ◌&&◌, eqb, ltb, List, sym, refl, ap, ◌∙◌, ⊎_elim, arith}
-use Rattle.std.proofs.lemmas.Bool.{and_parts, cases_Bool, eqb-true, ltb-true, ne_eqb}
+use Rattle.std.proofs.Common.{◌≡◌, ℕ, ◌+◌, ◌<◌, ◌≤◌, Bool, true, false, not, ◌&&◌, eqb, List, sym, refl, ap, ◌∙◌, arith}
+use Rattle.std.proofs.lemmas.Bool.{and_parts, eqb-true, ltb-true}
 use Rattle.slots.specs.Entries.{times}
 use Rattle.slots.proofs.Laws.{first_found, first_passes}
 use Rattle.link.specs.Messages.{often}
 use Rattle.link.specs.declared.message.Message.{Message}
-use Rattle.cells.specs.Cells.{awaits, holds, is_ccit, is_ccitnil, is_nil, is_ok}
-use Rattle.tables.specs.Copies.{same_hand_on, sent_by}
-use Rattle.tables.specs.Kept.{cell_at, list_empty, listed, listed_below, trace_at}
+use Rattle.cells.specs.Cells.{holds}
+use Rattle.tables.specs.Copies.{same_hand_on}
+use Rattle.tables.specs.Kept.{cell_at, trace_at}
 use Rattle.tables.specs.declared.entries.HandOn.{HandOn}
 use Rattle.tables.specs.declared.tables.Tables.{Tables}
 use Rattle.protocol.specs.Known.{in_field, is_opened}
 use Rattle.days.proofs.Counted.{blocked_at, first_counted, received_of, same_hand_on_self}
 use Rattle.days.proofs.Messages.{ack_of, copy_of}
-use Rattle.days.proofs.Pictures.{Fits, Seen, bit, bit_le, held_bits, one_state, owns, owns_not, owns_or_erased}
-use Rattle.days.proofs.Sound.{Sound, Standing, awaiting_of, owner_of, seen}
+use Rattle.days.proofs.Pictures.{bit, bit_le, held_bits, owns_not}
+use Rattle.days.proofs.Sound.{Sound, awaiting_of, owner_of, seen}
 
 -- a bit that counts is set
 pub bit_true : (b : Bool) → 1 ≤ bit b → b ≡ true

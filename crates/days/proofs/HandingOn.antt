@@ -1,10 +1,9 @@
 -- A hand-on: the sender holds the trace; a sent entry is added, and its copy waits.
-use Rattle.std.proofs.Common.{◌≡◌, ℕ, ◌+◌, ◌<◌, ◌≤◌, Bool, true, false, not, ◌&&◌, eqb, ltb, List, length, None, Option, sym, refl, ap, ◌∙◌, subst, ⊎_elim, arith}
+use Rattle.std.proofs.Common.{◌≡◌, ℕ, ◌+◌, ◌<◌, Bool, true, ◌&&◌, List, length, None, Option, refl, ap, ◌∙◌, subst, ⊎_elim, arith}
 use Rattle.std.proofs.lemmas.Bool.{and_parts, cases_Bool, eqb-false, ltb-true, not-false}
-use Rattle.slots.specs.Entries.{entries, placed, times}
+use Rattle.slots.specs.Entries.{placed, times}
 use Rattle.slots.proofs.Laws.{length-placed, room_from_times, times-placed}
 use Rattle.link.specs.Meaning.{Meaning}
-use Rattle.link.specs.Messages.{of_kind, often}
 use Rattle.link.specs.declared.message.Message.{Message}
 use Rattle.cells.specs.Cells.{holds}
 use Rattle.tables.specs.Copies.{same_hand_on}

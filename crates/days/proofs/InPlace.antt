@@ -1,10 +1,9 @@
 -- Every message that waits on a sound field can be delivered.
-use Rattle.std.proofs.Common.{◌≡◌, ℕ, ◌+◌, ◌<◌, ◌≤◌, Bool, true, false, not, ◌||◌, eqb, ltb, List, Option, sym, refl, ap, ◌∙◌, subst, ⊎_elim, arith}
-use Rattle.std.proofs.lemmas.Bool.{eq-eqb, eqb-false, lt-ltb, ne_eqb, not_from_true, or_from, or_left, or_right}
+use Rattle.std.proofs.Common.{◌≡◌, ℕ, ◌+◌, ◌<◌, ◌≤◌, Bool, true, false, ◌||◌, eqb, List, sym, refl, subst, arith}
+use Rattle.std.proofs.lemmas.Bool.{eq-eqb, eqb-false, lt-ltb, ne_eqb, not_from_true, or_from}
 use Rattle.slots.specs.Entries.{times, without}
 use Rattle.link.specs.Kinds.{kind_of}
 use Rattle.link.specs.Messages.{often, same}
-use Rattle.link.specs.declared.message.Kind.{Kind}
 use Rattle.link.specs.declared.message.Message.{Message}
 use Rattle.link.proofs.Bags.{often-without}
 use Rattle.cells.specs.Cells.{is_ccit, is_ccitnil, is_nil}
@@ -21,7 +20,7 @@ use Rattle.days.proofs.Facts.{ack_stands, bit_false, bit_true, copy_stands, hold
 use Rattle.days.proofs.Messages.{ack_of, copy_of, due}
 use Rattle.days.proofs.Opening.{waits_busy}
 use Rattle.days.proofs.Pictures.{bit, one_state}
-use Rattle.days.proofs.Sound.{Shaped, Sound, Standing, a_copy, a_due, an_ack, awaiting_of, cleaning_of, owner_of, seen}
+use Rattle.days.proofs.Sound.{Shaped, Sound, a_copy, a_due, an_ack, owner_of}
 
 module _ (T : Tables) (bag : List Message) (sound : Sound T bag) where
   -- between two stations of the field, about an opened trace, a message is out of place only by its kind

@@ -1,12 +1,11 @@
 -- The owner's list: what keeps it from being empty.
-use Rattle.std.proofs.Common.{◌≡◌, ℕ, zero, suc, ◌+◌, ◌<◌, ◌≤◌, Bool, true, false, cond, ◌&&◌, eqb, ltb, List, [], get_or, sym, refl, ap, ◌∙◌, subst, ⊎_elim, arith}
+use Rattle.std.proofs.Common.{◌≡◌, ℕ, zero, suc, ◌<◌, true, false, cond, eqb, ltb, List, [], get_or, sym, refl, ap, ◌∙◌, ⊎_elim, arith}
 use Rattle.std.proofs.lemmas.Bool.{and_left, and_parts, cases_Bool, cases_eq, cases_lt, eqb-true, le-ltb}
 use Rattle.slots.specs.Entries.{times}
 use Rattle.link.specs.declared.message.Message.{Message}
 use Rattle.cells.specs.Cells.{blank}
-use Rattle.cells.specs.declared.Cell.{Cell}
 use Rattle.tables.specs.Copies.{same_hand_on, sent_by}
-use Rattle.tables.specs.Kept.{cell_at, in_tables, list_empty, listed, listed_below}
+use Rattle.tables.specs.Kept.{cell_at, list_empty, listed, listed_below}
 use Rattle.tables.specs.declared.entries.HandOn.{HandOn}
 use Rattle.tables.specs.declared.tables.Tables.{Tables}
 use Rattle.days.proofs.Dropping.{sent_counted}

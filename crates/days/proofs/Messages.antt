@@ -1,7 +1,7 @@
 -- The messages that occur on a day, told apart, and how often one waits when one more does.
-use Rattle.std.proofs.Common.{◌≡◌, ℕ, ◌+◌, ◌<◌, Bool, true, false, cond, ◌&&◌, eqb, List, ◌∷◌, count_by, sym, refl, ap, ◌∙◌, ⊎_elim, arith}
+use Rattle.std.proofs.Common.{◌≡◌, ℕ, ◌+◌, ◌<◌, Bool, true, false, ◌&&◌, eqb, List, ◌∷◌, count_by, sym, refl, ap, ◌∙◌, ⊎_elim, arith}
 use Rattle.std.proofs.lemmas.List.Sums.{sum_by-cons}
-use Rattle.std.proofs.lemmas.Bool.{and_cases, and_left, and_right, cases_Bool}
+use Rattle.std.proofs.lemmas.Bool.{and_left, and_right, cases_Bool}
 use Rattle.link.specs.Kinds.{kind_number}
 use Rattle.link.specs.Messages.{of_kind, often, same, SameBag}
 use Rattle.link.specs.declared.message.Kind.TheVariants.{Copy, CopyAck}

@@ -1,19 +1,18 @@
 -- Opening a trace: nothing names it yet, on the link or in the tables.
-use Rattle.std.proofs.Common.{◌≡◌, ℕ, ◌+◌, ◌<◌, ◌≤◌, Bool, true, false, cond, not, ◌&&◌, eqb, ltb, ◌≢◌, List, length, get_or, set, None as nothing, sym, refl, ap, ◌∙◌, subst, ⊎_elim, arith}
+use Rattle.std.proofs.Common.{◌≡◌, ℕ, ◌+◌, ◌<◌, ◌≤◌, true, false, cond, ◌&&◌, eqb, ltb, ◌≢◌, List, set, None as nothing, sym, refl, ap, ◌∙◌, subst, ⊎_elim, arith}
 use Rattle.std.proofs.lemmas.List.{get_or-set_other, get_or-set_same, length-set}
-use Rattle.std.proofs.lemmas.Bool.{and_from, and_left, and_right, cases_eq, cases_lt, eq-eqb, le-ltb, lt-ltb, ltb-true, ne_eqb, not-false}
+use Rattle.std.proofs.lemmas.Bool.{and_from, and_left, and_right, cases_eq, cases_lt, eq-eqb, le-ltb, lt-ltb, ne_eqb}
 use Rattle.slots.specs.Entries.{times}
 use Rattle.link.specs.Meaning.{Meaning}
 use Rattle.link.specs.Messages.{often}
 use Rattle.link.specs.declared.message.Message.{Message}
 use Rattle.cells.specs.Cells.{holds, in_state, is_ccit, is_ccitnil, is_nil, is_ok}
-use Rattle.cells.specs.declared.Cell.{Cell}
 use Rattle.cells.specs.declared.Duty.{Duty}
 use Rattle.cells.specs.declared.Duty.TheVariants.{Clean, CleanAck, Dirty, DirtyAck}
 use Rattle.cells.specs.declared.State.{State}
 use Rattle.cells.specs.declared.State.TheVariants.{None, Nil, Ok, Ccit, CcitNil}
 use Rattle.tables.specs.Copies.{same_hand_on}
-use Rattle.tables.specs.Kept.{cell_at, trace_at, unopened, with_cell, with_opened, with_traces}
+use Rattle.tables.specs.Kept.{cell_at, trace_at, unopened, with_opened, with_traces}
 use Rattle.tables.specs.declared.entries.HandOn.{HandOn}
 use Rattle.tables.specs.declared.tables.Tables.{Tables}
 use Rattle.tables.specs.declared.tables.Trace.{Trace}
@@ -23,7 +22,7 @@ use Rattle.protocol.specs.UserCalls.{opening}
 use Rattle.protocol.proofs.Checks.{no_condition}
 use Rattle.days.proofs.Facts.{holder_known}
 use Rattle.days.proofs.Messages.{ack_of, copy_of, due}
-use Rattle.days.proofs.Pictures.{Fits, Seen, bit, fits_opened, fits_opened_elsewhere, one_state, recount}
+use Rattle.days.proofs.Pictures.{Fits, bit, fits_opened, fits_opened_elsewhere}
 use Rattle.days.proofs.Sound.{Shape, Shaped, Sound, Standing, a_copy, a_due, an_ack, awaiting_of, clean_owed, cleaning_of, dirty_owed, owner_of, seen}
 use Rattle.days.proofs.Touch.{Apart, cell_elsewhere, cell_here, shape_put, total_here}
 use Rattle.days.proofs.Using.{below}

@@ -1,5 +1,5 @@
 -- What is to be seen of a station and a trace, which pictures there are, and how calls turn one into another.
-use Rattle.std.proofs.Common.{◌≡◌, ℕ, ◌+◌, ◌*◌, ◌<◌, ◌≤◌, Bool, true, false, cond, not, ◌&&◌, refl, ap, subst, arith}
+use Rattle.std.proofs.Common.{◌≡◌, ℕ, ◌+◌, ◌*◌, ◌≤◌, Bool, true, false, cond, not, ◌&&◌, refl, ap, subst, arith}
 use Rattle.cells.specs.Cells.{awaiting, blank, holds, in_state, is_ccit, is_ccitnil, is_nil, is_ok, owes, with_duty, with_listed, with_uses}
 use Rattle.cells.specs.declared.Cell.{Cell}
 use Rattle.cells.specs.declared.Duty.TheVariants.{Clean, CleanAck, Dirty, DirtyAck}

@@ -1,23 +1,20 @@
 -- The sending of a duty: the duty goes, and its message waits.
-use Rattle.std.proofs.Common.{◌≡◌, ℕ, ◌+◌, ◌<◌, Bool, true, false, not, List, None, sym, refl, ap, ◌∙◌, arith}
+use Rattle.std.proofs.Common.{◌≡◌, ℕ, true, List, None, sym, refl, ap, arith}
 use Rattle.std.proofs.lemmas.Bool.{not-false}
-use Rattle.slots.specs.Entries.{times}
 use Rattle.link.specs.Meaning.{Meaning}
 use Rattle.link.specs.declared.message.Message.{Message}
 use Rattle.cells.specs.Cells.{holds, owes}
 use Rattle.cells.specs.declared.Cell.{Cell}
 use Rattle.cells.specs.declared.Duty.{Duty}
 use Rattle.cells.specs.declared.Duty.TheVariants.{Clean, CleanAck, Dirty, DirtyAck}
-use Rattle.tables.specs.Copies.{same_hand_on}
-use Rattle.tables.specs.Kept.{cell_at, trace_at}
-use Rattle.tables.specs.declared.entries.HandOn.{HandOn}
+use Rattle.tables.specs.Kept.{cell_at}
 use Rattle.tables.specs.declared.tables.Tables.{Tables}
-use Rattle.protocol.specs.Calls.{first_refusal, shut}
-use Rattle.protocol.specs.HouseCalls.{done, may_send, sender_of, sending, too_early}
+use Rattle.protocol.specs.Calls.{first_refusal}
+use Rattle.protocol.specs.HouseCalls.{done, sending}
 use Rattle.protocol.proofs.Checks.{no_condition}
 use Rattle.days.proofs.Calm.{calm_posted, keep_calm, sender_holds, untouched}
 use Rattle.days.proofs.Messages.{More, due, more_due}
-use Rattle.days.proofs.Pictures.{Fits, Seen, bit, fits_sent, held_bits, recount, sent_seen, with_seen}
+use Rattle.days.proofs.Pictures.{Fits, bit, fits_sent, held_bits, recount, sent_seen, with_seen}
 use Rattle.days.proofs.Sound.{Sound, owner_of, seen}
 use Rattle.days.proofs.Using.{below}
 

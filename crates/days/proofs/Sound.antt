@@ -1,5 +1,5 @@
 -- What holds of tables and bag at every moment of a day.
-use Rattle.std.proofs.Common.{◌≡◌, ℕ, ◌+◌, ◌<◌, ◌≤◌, Bool, true, ◌&&◌, eqb, List, [], length, get_or, count_by}
+use Rattle.std.proofs.Common.{◌≡◌, ℕ, ◌+◌, ◌<◌, ◌≤◌, true, ◌&&◌, eqb, List, [], length, get_or, count_by}
 use Rattle.slots.specs.Entries.{times}
 use Rattle.link.specs.Messages.{of_kind, often}
 use Rattle.link.specs.declared.message.Message.{Message}

@@ -1,8 +1,8 @@
 -- A call that changes one cell, and perhaps the received entries, and what waits about that station and trace.
 -- Every other station and trace is left alone.
-use Rattle.std.proofs.Common.{◌≡◌, ℕ, ◌+◌, ◌<◌, ◌≤◌, Bool, true, false, cond, ◌&&◌, eqb, ltb, List, [], length, get_or, set, count_by, Option, sym, refl, ap, ◌∙◌, subst, ⊎_elim, arith}
+use Rattle.std.proofs.Common.{◌≡◌, ℕ, ◌+◌, ◌<◌, Bool, true, false, ◌&&◌, eqb, ltb, List, [], length, get_or, set, count_by, Option, sym, ap, ◌∙◌, subst, ⊎_elim, arith}
 use Rattle.std.proofs.lemmas.List.{get_or-set_other, get_or-set_same, length-set}
-use Rattle.std.proofs.lemmas.Bool.{and_cases, and_from, and_parts, cases_Bool, cases_eq, cond-true, eq-eqb, eqb-false, eqb-true, lt-ltb}
+use Rattle.std.proofs.lemmas.Bool.{and_from, and_parts, cases_Bool, cases_eq, eq-eqb, eqb-true, lt-ltb}
 use Rattle.slots.specs.Entries.{times}
 use Rattle.link.specs.Messages.{of_kind, often}
 use Rattle.link.specs.declared.message.Message.{Message}
@@ -11,14 +11,14 @@ use Rattle.cells.specs.declared.Cell.{Cell}
 use Rattle.cells.specs.declared.Duty.{Duty}
 use Rattle.cells.specs.declared.Duty.TheVariants.{Clean, CleanAck, Dirty, DirtyAck}
 use Rattle.tables.specs.Copies.{same_hand_on}
-use Rattle.tables.specs.Kept.{cell_at, in_tables, trace_at, with_cell, with_received}
+use Rattle.tables.specs.Kept.{cell_at, in_tables, with_cell, with_received}
 use Rattle.tables.specs.declared.entries.HandOn.{HandOn}
 use Rattle.tables.specs.declared.entries.Received.{Received}
 use Rattle.tables.specs.declared.tables.Tables.{Tables}
 use Rattle.protocol.proofs.Frames.{cell_of_another, cell_of_another_trace, cell_put}
 use Rattle.days.proofs.Counted.{blocked_at, received_of, total, total_put}
 use Rattle.days.proofs.Messages.{ack_of, copy_of, due}
-use Rattle.days.proofs.Pictures.{Fits, Seen, bit, with_seen}
+use Rattle.days.proofs.Pictures.{Fits, bit, with_seen}
 use Rattle.days.proofs.Sound.{Shape, Shaped, Sound, Standing, awaiting_of, clean_owed, cleaning_of, dirty_owed, owner_of, seen}
 
 -- another station or another trace

@@ -1,5 +1,5 @@
 -- Using a trace and giving it back touch nothing but uses.
-use Rattle.std.proofs.Common.{◌≡◌, ℕ, ◌+◌, ◌-◌, ◌<◌, Bool, true, false, not, ltb, List, None}
+use Rattle.std.proofs.Common.{◌≡◌, ℕ, ◌+◌, ◌-◌, ◌<◌, false, not, ltb, List, None}
 use Rattle.std.proofs.lemmas.Bool.{ltb-true, not-false}
 use Rattle.link.specs.Meaning.{Meaning}
 use Rattle.link.specs.declared.message.Message.{Message}

@@ -1,5 +1,5 @@
 -- What holds at every moment of every day.
-use Rattle.std.specs.Prelude.{◌≡◌, ℕ, ◌+◌, ◌<◌, ◌≤◌, Bool, true, false, ◌&&◌, ◌||◌, ◌≢◌, List, count_by, nat_lt}
+use Rattle.std.specs.Prelude.{◌≡◌, ℕ, ◌+◌, ◌<◌, ◌≤◌, Bool, true, false, ◌&&◌, ◌||◌, ◌≢◌, count_by, nat_lt}
 use Rattle.link.specs.Kinds.{kind_number}
 use Rattle.link.specs.Messages.{of_kind, often}
 use Rattle.link.specs.declared.message.Kind.{Kind}

@@ -1,5 +1,6 @@
 // Deliveries, as far as the tables go: which messages are out of place, and what the others change.
 #![tactic(auto)]
+
 ghost use Rattle.std.specs.Prelude.{◌≡◌, true, false, Some, MatchOption};
 ghost use Rattle.link.specs.Kinds.{kind_of};
 ghost use Rattle.protocol.specs.Delivery.{acked, delivered, handed, misplaced, out_of_place, with_ack_owed, with_copy};

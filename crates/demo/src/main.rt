@@ -2,6 +2,7 @@
 // records into it, hands it on to a logger, and the logger hands it on to a relay; packets overtake each
 // other; the owner may erase the trace once nobody refers to it any more.
 #![tactic(auto)]
+
 use cells::Duty;
 use ends::row::Row;
 use field::Field;

@@ -1,13 +1,9 @@
 -- The links that stand alone: the basket and the row.
-use Rattle.std.specs.Prelude.{ℕ, Bool, cond, List, [], ◌∷◌, ◌++◌, length, Some, None, Ok, Err, count_by, Option, Result, nat_lt}
+use Rattle.std.specs.Prelude.{Bool, cond, List, [], ◌∷◌, ◌++◌, Some, None, count_by, Option, nat_lt}
 use Rattle.slots.specs.Entries.{without}
-use Rattle.link.specs.Gates.{gate_of}
 use Rattle.link.specs.Meaning.{Meaning}
 use Rattle.places.specs.Posting.{end_gate}
 use Rattle.link.specs.Messages.{between, same}
-use Rattle.link.specs.declared.gate.Gate.{Gate}
-use Rattle.link.specs.declared.gate.Gate.TheVariants.{Closed, Open}
-use Rattle.link.specs.declared.gate.GateClosed.{GateClosed}
 use Rattle.link.specs.declared.message.Message.{Message}
 
 -- the basket offers all that waits

@@ -1,9 +1,8 @@
 -- The links that stand alone: what their 128 places hold, and the laws of their meanings.
-use Rattle.std.specs.Prelude.{◌≡◌, ℕ, suc, ◌+◌, ◌<◌, ◌≤◌, Bool, false, List, [], ◌∷◌, ◌++◌, length, is_ok, Some, None, Ok, Option, Result, ◌==◌, refl}
-use Rattle.std.proofs.Common.{arith, ⊎_elim, ap, ap₂, sym, ◌∙◌}
-use Rattle.std.proofs.lemmas.Bool.{cases_Bool, cond_both, cond-false, cond-true, eqb-false, ne_eqb}
+use Rattle.std.specs.Prelude.{◌≡◌, ℕ, suc, ◌<◌, ◌≤◌, false, List, [], ◌∷◌, ◌++◌, length, is_ok, Some, None, Option, Result, ◌==◌}
+use Rattle.std.proofs.Common.{arith, ap, ap₂, sym, ◌∙◌}
+use Rattle.std.proofs.lemmas.Bool.{cond_both, cond-false, ne_eqb}
 use Rattle.slots.specs.Entries.{entries, first, times, without}
-use Rattle.slots.proofs.Counts.{entries_le, times_le}
 use Rattle.slots.proofs.Laws.{first_found, first_passes}
 use Rattle.ends.specs.Ends.{basket, fronts, row, stands_behind}
 use Rattle.places.specs.Posting.{end_gate, enqueued}

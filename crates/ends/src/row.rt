@@ -91,7 +91,7 @@ impl Link for Row {
     // A message that is let in goes behind all others.
     fn post(&mut self, message: Message) -> Result<(), GateClosed>
         ensures posted { Posted row_meaning message self.old self.new result }
-        ensures self_after { queue self.new ≡ enqueued message result (queue self.old) }
+        ensures order { queue self.new ≡ enqueued message result (queue self.old) }
     {
         self.places.post(message)
     }
@@ -99,7 +99,7 @@ impl Link for Row {
     // The messages that stay keep their order.
     fn take(&mut self, place: u32) -> Option<Message>
         ensures taken { Taken row_meaning place self.old self.new result }
-        ensures self_after { queue self.new ≡ dequeued result (queue self.old) }
+        ensures order { queue self.new ≡ dequeued result (queue self.old) }
     {
         let message = self.offer(place)?;
         self.places.strike(message)

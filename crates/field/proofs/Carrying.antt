@@ -1,8 +1,8 @@
 -- Calls of a field whose checks are made in parts.
-use Rattle.std.proofs.Common.{◌≡◌, List, ◌++◌, IsErrAnd, Some, None, Ok, Err, Option, Result, sym, refl, ap, ◌∙◌, subst}
+use Rattle.std.proofs.Common.{◌≡◌, List, ◌++◌, IsErrAnd, Some, Err, Option, Result, sym, refl, ap, ◌∙◌, subst}
 use Rattle.std.proofs.lemmas.Result.{err_from_is_err_and}
 use Rattle.link.specs.Meaning.{Meaning}
-use Rattle.protocol.specs.Calls.{Call, Check, Step, first_refusal, told, verdict}
+use Rattle.protocol.specs.Calls.{Check, Step, first_refusal, told, verdict}
 use Rattle.protocol.specs.Refusals.{Fault, fault}
 use Rattle.protocol.specs.declared.refusal.Refusal.{Refusal}
 use Rattle.protocol.proofs.Checks.{refused_by, stops}

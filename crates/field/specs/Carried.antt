@@ -1,11 +1,18 @@
 -- What it means that a field carries out a call.
-use Rattle.std.specs.Prelude.{◌≡◌, Some, None, Ok, Err, Option, Result}
+use Rattle.std.specs.Prelude.{◌≡◌, ◌∷◌, Some, None, Ok, Err, Option, Result}
 use Rattle.link.specs.Meaning.{Meaning}
-use Rattle.protocol.specs.Calls.{Call, Step, first_refusal, told}
+use Rattle.link.specs.Messages.{SameBag}
+use Rattle.protocol.specs.Calls.{Call, Radio, Step, first_refusal, posts, silent, takes, told}
 use Rattle.protocol.specs.Refusals.{Fault}
-use Rattle.days.specs.Days.{Radioed, Situation}
+use Rattle.days.specs.Days.{Situation}
 use Rattle.protocol.specs.declared.refusal.Refusal.{Refusal}
 use Rattle.field.specs.declared.Field.{Field}
+
+-- what happens on the link: nothing, or the message waits once more, or once less
+abbrev pub Radioed : {L : Type 0} → (L → Meaning) → Radio → L → L → Type 0
+Radioed meaning silent before after = after ≡ before
+Radioed meaning (posts m) before after = SameBag (meaning after).bag (m ∷ (meaning before).bag)
+Radioed meaning (takes m) before after = SameBag (meaning before).bag (m ∷ (meaning after).bag)
 
 -- how a field stands, as a day sees it
 abbrev pub situation : {L M : Type 0} → (L → Meaning) → Field L M → Situation

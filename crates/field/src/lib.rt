@@ -1,5 +1,6 @@
 // A field of stations over any link: rigging, the calls of users and of the house, and the report.
 #![tactic(auto)]
+
 ghost use Rattle.std.specs.Prelude.{◌≡◌, [], length};
 ghost use Rattle.std.specs.List.{slice_get};
 ghost use Rattle.tables.specs.Kept.{cell_at, rigged};

@@ -1,5 +1,6 @@
 // The 128 places of a link that stands alone, in which messages wait in the order of posting.
 #![tactic(auto)]
+
 ghost use Rattle.std.specs.Prelude.{◌≡◌, ◌≤◌, false, [], length, is_ok, count_by};
 ghost use Rattle.std.specs.List.{slice_get};
 ghost use Rattle.slots.specs.Entries.{Packed, entries, first, without};
@@ -39,7 +40,7 @@ impl Places {
     pub fn count<K>(&self, key: &K) -> u16
     where
         Message: Matches<K>,
-        ensures value { result ≡ count_by (fits key.now) (entries self.now.slots) }
+        ensures value { result ≡ count_by (⟦<Message as Matches<K>>⟧.fits key.now) (entries self.now.slots) }
         ensures bound { result ≤ 128 }
     {
         slots::count(&self.slots, key) as u16

@@ -1,5 +1,5 @@
 -- Checks made in parts: what the first part refuses is refused, and what it lets pass is left to the rest.
-use Rattle.std.proofs.Common.{◌≡◌, ℕ, Bool, true, false, cond, List, [], ◌∷◌, ◌++◌, Some, None, Ok, Err, Option, Result, sym, refl, ap, ◌∙◌, arith}
+use Rattle.std.proofs.Common.{◌≡◌, ℕ, Bool, true, false, cond, List, [], ◌∷◌, ◌++◌, Some, None, Ok, Err, Option, refl, arith}
 use Rattle.std.specs.List.{AllByRecursion as All}
 use Rattle.protocol.specs.Calls.{Check, first_refusal, verdict}
 use Rattle.protocol.specs.Refusals.{Fault}

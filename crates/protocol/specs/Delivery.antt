@@ -1,5 +1,5 @@
 -- The step of a delivery: what happens depends on the message's kind and on the state at the receiver.
-use Rattle.std.specs.Prelude.{ℕ, Bool, true, false, not, ◌&&◌, ◌||◌, List, [], ◌∷◌, map, Some, None as nothing, Option, ◌==◌}
+use Rattle.std.specs.Prelude.{ℕ, Bool, true, false, not, ◌||◌, [], ◌∷◌, map, Some, None as nothing, Option, ◌==◌}
 use Rattle.std.specs.List.{slice_get}
 use Rattle.slots.specs.Entries.{placed, struck, times}
 use Rattle.link.specs.Kinds.{kind_of}

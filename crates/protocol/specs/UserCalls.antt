@@ -1,5 +1,5 @@
 -- The steps of the calls that a user makes.
-use Rattle.std.specs.Prelude.{ℕ, Bool, true, not, ◌&&◌, ltb, List, [], ◌∷◌, ◌++◌, is_some, Some, None, Option, ◌==◌, nat_eq, nat_lt}
+use Rattle.std.specs.Prelude.{ℕ, true, not, ◌&&◌, ltb, List, [], ◌∷◌, ◌++◌, is_some, Some, None, Option, ◌==◌, nat_eq, nat_lt}
 use Rattle.slots.specs.Entries.{placed, times}
 use Rattle.link.specs.Kinds.{kind_number}
 use Rattle.link.specs.declared.message.Kind.TheVariants.{Copy}

@@ -1,5 +1,6 @@
 // Calls on a working field as values, and carrying them out.
 #![tactic(auto)]
+
 ghost use Rattle.std.specs.Prelude.{◌≡◌};
 ghost use Rattle.field.specs.Carried.{Carried};
 ghost use Rattle.script.specs.Scripts.{answered, just, nothing, step_of};

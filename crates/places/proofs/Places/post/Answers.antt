@@ -1,4 +1,4 @@
-use Rattle.std.proofs.Common.{◌≡◌, length, sym, ap, ◌∙◌, subst}
+use Rattle.std.proofs.Common.{length, sym, ap, ◌∙◌, subst}
 use Rattle.slots.specs.Entries.{Packed, entries}
 use Rattle.slots.proofs.Laws.{entries-placed, length-placed, packed_placed}
 use Rattle.std.proofs.lemmas.Bool.{true≢false}
@@ -10,7 +10,10 @@ pub invariant_of-self : goal.invariant_of-self
 invariant_of-self c =
     let before = c.args.self.now in
     let after = c.place.ensures.after in
-    (ap length after ∙ length-placed _ _ ∙ before.sized, (subst Packed (sym after) (packed_placed _ _ before.packed), tt))
+    record {
+      sized = ap length after ∙ length-placed _ _ ∙ before.sized;
+      packed = subst Packed (sym after) (packed_placed _ _ before.packed);
+    }
 
 pub returns : goal.returns
 returns c =

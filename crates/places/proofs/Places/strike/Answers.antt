@@ -7,7 +7,10 @@ pub invariant_of-self : goal.invariant_of-self
 invariant_of-self c =
     let before = c.args.self.now in
     let after = c.strike.ensures.after in
-    (ap length after ∙ length-struck _ _ ∙ before.sized, (subst Packed (sym after) (packed_struck _ _ before.packed), tt))
+    record {
+      sized = ap length after ∙ length-struck _ _ ∙ before.sized;
+      packed = subst Packed (sym after) (packed_struck _ _ before.packed);
+    }
 
 pub returns : goal.returns
 returns c = record {

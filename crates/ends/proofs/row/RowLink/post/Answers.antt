@@ -6,4 +6,8 @@ use Rattle.ends.proofs.row.RowLink.post.Goals as goal
 pub returns : goal.returns
 returns c =
     let done = c.post.ensures in
-    (posted_end row_meaning queue (λ _. refl) _ _ _ _ _ done.value done.order (λ refused i. record { places = done.same refused i }), done.order)
+    record {
+      posted =
+          posted_end row_meaning queue (λ _. refl) _ _ _ _ _ done.value done.order (λ refused i. record { places = done.same refused i });
+      order = done.order;
+    }

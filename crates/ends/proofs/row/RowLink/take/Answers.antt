@@ -14,4 +14,7 @@ returns c =
     let waits : 0 < often message line = omega (arith, often-nth (fronts [] line) c.args.place message at, fronts_drawn [] line message) in
     let struck = c.strike.ensures in
     let answer = struck.value ∙ first_same _ _ waits in
-    (taken_end row_meaning queue (λ _. refl) _ _ _ _ _ at answer waits struck.after, struck.after ∙ ap (λ o. dequeued o line) (sym answer))
+    record {
+      taken = taken_end row_meaning queue (λ _. refl) _ _ _ _ _ at answer waits struck.after;
+      order = struck.after ∙ ap (λ o. dequeued o line) (sym answer);
+    }
