@@ -13,8 +13,10 @@ use link::interface::Link;
 use protocol::refusal::Refusal;
 #[cfg(test)]
 use script::{Call, carry_out};
+#[cfg(test)]
 use std::process::Abort;
 
+mod entry_tables;
 #[cfg(test)]
 mod fields;
 #[cfg(test)]
@@ -23,7 +25,6 @@ mod links;
 mod order;
 #[cfg(test)]
 mod piles;
-mod tables;
 
 // The number of the refusal, or 0 where there is none.
 #[cfg(test)]

@@ -1,6 +1,6 @@
 -- Checks made in parts: what the first part refuses is refused, and what it lets pass is left to the rest.
 use Rattle.std.proofs.Common.{◌≡◌, ℕ, Bool, true, false, cond, List, [], ◌∷◌, ◌++◌, Some, None, Ok, Err, Option, refl, arith}
-use Rattle.std.specs.List.{AllByRecursion as All}
+use Rattle.std.specs.List.{AllByRecursion}
 use Rattle.protocol.specs.Calls.{Check, first_refusal, verdict}
 use Rattle.protocol.specs.Refusals.{Fault}
 
@@ -36,7 +36,7 @@ none_met : (b : Bool) (g : Fault) (rest : Option Fault) → cond b (Some g) rest
 none_met true g rest is = let z : ◌≡◌ {A = ℕ} 0 1 = cc in absurd (omega arith)
 none_met false g rest is = (refl, is)
 
-pub no_condition : (cs : List Check) → first_refusal cs ≡ None → All (λ c. c.met ≡ false) cs
+pub no_condition : (cs : List Check) → first_refusal cs ≡ None → AllByRecursion (λ c. c.met ≡ false) cs
 no_condition [] is = tt
 no_condition (c ∷ cs) is =
     let here = none_met c.met c.refusal (first_refusal cs) is in (here.0, no_condition cs here.1)
