@@ -70,6 +70,14 @@ module _ {E : Type 0} where
         ∙ times-append (take i xs) (o ∷ [])
         ∙ ap (λ n. times p (take i xs) + n) (times_one o)
 
+    -- the places whose entry passes are as many as the entries that pass
+    pub count_by-hit : (xs : List (Option E)) → count_by (hit p) xs ≡ times p xs
+    unfolding times entries
+    count_by-hit [] = refl
+    count_by-hit (None ∷ xs) = omega (arith, sum_by-cons (λ o. cond (hit p o) 1 0) None xs, count_by-hit xs)
+    count_by-hit (Some x ∷ xs) =
+        omega (arith, sum_by-cons (λ o. cond (hit p o) 1 0) (Some x) xs, count_by-hit xs, times_some x xs)
+
     neither : (b : Bool) (n : ℕ) → cond b 1 0 + n ≡ 0 → (b ≡ false) × (n ≡ 0)
     neither true n e = absurd (omega arith)
     neither false n e = (refl, omega arith)

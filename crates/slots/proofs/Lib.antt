@@ -1,4 +1,5 @@
 pub mod Counts
 pub mod Laws
 pub mod Places
+pub mod Positions
 pub mod Strikes

@@ -1,10 +1,11 @@
 -- What striking does to a table, place by place.
-use Rattle.std.proofs.Common.{◌≡◌, ℕ, zero, suc, ◌-◌, ◌<◌, Bool, List, [], ◌∷◌, ◌++◌, length, get_or, take, drop, set, Some, None, Option, sym, refl, ap, ◌∙◌, le_of_suc-le-suc, not-suc-le-zero, add-one, arith}
+use Rattle.std.proofs.Common.{◌≡◌, ℕ, suc, ◌+◌, ◌-◌, ◌<◌, ◌≤◌, Bool, true, false, cond, not, List, [], ◌∷◌, ◌++◌, length, get_or, take, drop, set, position, Some, None, Option, refl, ap, ◌∙◌, ⊎_elim, add-one, arith}
 use borrow.Rule.Slice.PartMut.{put_mid}
+use Rattle.std.specs.List.{position_or_len}
 use Rattle.std.proofs.lemmas.List.{append-nil, drop_all, drop-set, length-drop, take_rest, take-set}
-use Rattle.std.proofs.lemmas.Bool.{cond-true, cond-false, false≢true}
-use Rattle.slots.specs.Entries.{first, Found, struck, times}
-use Rattle.slots.proofs.Counts.{misses, times_none}
+use Rattle.std.proofs.lemmas.Bool.{cases_Bool, cond-false, cond-true}
+use Rattle.slots.specs.Entries.{first, hit, struck}
+use Rattle.slots.proofs.Positions.{position_none, position_some}
 
 module _ {E : Type 0} where
   -- the place is emptied, and what stands from there on is turned by one
@@ -18,41 +19,73 @@ module _ {E : Type 0} where
       rw (behind, append-nil ys, back, take-set xs i None)
 
   module _ (p : E → Bool) where
-    pub first_none : (xs : List (Option E)) → times p xs ≡ 0 → first p xs ≡ None
+    -- how many places stand before the first one whose entry passes
+    abbrev place_of : List (Option E) → ℕ
+    place_of xs = position_or_len (hit p) xs
+
+    past : (xs : List (Option E)) → place_of (None ∷ xs) ≡ suc (place_of xs)
+    past xs = omega arith
+
+    here : (x : E) (xs : List (Option E)) → p x ≡ true → place_of (Some x ∷ xs) ≡ 0
+    here x xs yes' = ap (λ b. cond (not b) (1 + place_of xs) 0) yes'
+
+    further : (x : E) (xs : List (Option E)) → p x ≡ false → place_of (Some x ∷ xs) ≡ suc (place_of xs)
+    further x xs no' = ap (λ b. cond (not b) (1 + place_of xs) 0) no' ∙ omega arith
+
+    first_here : (xs : List (Option E)) (d : Option E) → place_of xs < length xs → first p xs ≡ get_or xs (place_of xs) d
     unfolding first
-    first_none [] none = refl
-    first_none (None ∷ xs) none = first_none xs (sym (times_none p xs) ∙ none)
-    first_none (Some x ∷ xs) none =
-        let miss = misses p x xs none in cond-false _ _ _ miss.0 ∙ first_none xs miss.1
+    first_here [] d within = absurd (omega arith)
+    first_here (None ∷ xs) d within = rw (past xs) (first_here xs d (omega (arith, past xs)))
+    first_here (Some x ∷ xs) d within =
+        ⊎_elim
+        (λ yes'. rw (here x xs yes') (cond-true _ _ _ yes'))
+        (λ no'. rw (further x xs no') (cond-false _ _ _ no' ∙ first_here xs d (omega (arith, further x xs no'))))
+        (cases_Bool (p x))
 
-    pub struck_none : (xs : List (Option E)) → times p xs ≡ 0 → struck p xs ≡ xs
+    struck_here : (xs : List (Option E)) → place_of xs < length xs → struck p xs ≡ take (place_of xs) xs ++ (drop (suc (place_of xs)) xs ++ (None ∷ []))
     unfolding struck
-    struck_none [] none = refl
-    struck_none (None ∷ xs) none = ap (λ ys. None ∷ ys) (struck_none xs (sym (times_none p xs) ∙ none))
-    struck_none (Some x ∷ xs) none =
-        let miss = misses p x xs none in
-        cond-false _ _ _ miss.0 ∙ ap (λ ys. Some x ∷ ys) (struck_none xs miss.1)
+    struck_here [] within = absurd (omega arith)
+    struck_here (None ∷ xs) within = rw (past xs) (ap (λ ys. None ∷ ys) (struck_here xs (omega (arith, past xs))))
+    struck_here (Some x ∷ xs) within =
+        ⊎_elim
+        (λ yes'. rw (here x xs yes') (cond-true _ _ _ yes'))
+        (λ no'.
+        rw (further x xs no') (cond-false _ _ _ no' ∙ ap (λ ys. Some x ∷ ys) (struck_here xs (omega (arith, further x xs no')))))
+        (cases_Bool (p x))
 
-    -- a match lies further on
-    later : {x : Option E} {xs : List (Option E)} {i : ℕ} → Found p (x ∷ xs) (suc i) → times p (take i xs) ≡ 0 → Found p xs i
-    later f none = record { within = le_of_suc-le-suc f.within; none_before = none; here = f.here }
-
-    pub first_at : (xs : List (Option E)) (i : ℕ) (d : Option E) → Found p xs i → first p xs ≡ get_or xs i d
+    -- where no entry passes
+    first_past : (xs : List (Option E)) → length xs ≤ place_of xs → first p xs ≡ None
     unfolding first
-    first_at [] i d f = absurd (not-suc-le-zero f.within)
-    first_at (None ∷ xs) zero d f = absurd (false≢true (f.here d))
-    first_at (None ∷ xs) (suc i) d f = first_at xs i d (later f (sym (times_none p (take i xs)) ∙ f.none_before))
-    first_at (Some x ∷ xs) zero d f = cond-true _ _ _ (f.here d)
-    first_at (Some x ∷ xs) (suc i) d f =
-        let miss = misses p x (take i xs) f.none_before in
-        cond-false _ _ _ miss.0 ∙ first_at xs i d (later f miss.1)
+    first_past [] none = refl
+    first_past (None ∷ xs) none = first_past xs (omega (arith, past xs))
+    first_past (Some x ∷ xs) none =
+        ⊎_elim
+        (λ yes'. absurd (omega (arith, here x xs yes')))
+        (λ no'. cond-false _ _ _ no' ∙ first_past xs (omega (arith, further x xs no')))
+        (cases_Bool (p x))
 
-    pub struck_at : (xs : List (Option E)) (i : ℕ) → Found p xs i → struck p xs ≡ take i xs ++ (drop (suc i) xs ++ (None ∷ []))
+    struck_past : (xs : List (Option E)) → length xs ≤ place_of xs → struck p xs ≡ xs
     unfolding struck
-    struck_at [] i f = absurd (not-suc-le-zero f.within)
-    struck_at (None ∷ xs) zero f = absurd (false≢true (f.here None))
-    struck_at (None ∷ xs) (suc i) f = ap (λ ys. None ∷ ys) (struck_at xs i (later f (sym (times_none p (take i xs)) ∙ f.none_before)))
-    struck_at (Some x ∷ xs) zero f = cond-true _ _ _ (f.here None)
-    struck_at (Some x ∷ xs) (suc i) f =
-        let miss = misses p x (take i xs) f.none_before in
-        cond-false _ _ _ miss.0 ∙ ap (λ ys. Some x ∷ ys) (struck_at xs i (later f miss.1))
+    struck_past [] none = refl
+    struck_past (None ∷ xs) none = ap (λ ys. None ∷ ys) (struck_past xs (omega (arith, past xs)))
+    struck_past (Some x ∷ xs) none =
+        ⊎_elim
+        (λ yes'. absurd (omega (arith, here x xs yes')))
+        (λ no'. cond-false _ _ _ no' ∙ ap (λ ys. Some x ∷ ys) (struck_past xs (omega (arith, further x xs no'))))
+        (cases_Bool (p x))
+
+    -- the same by the library's `position`
+    pub first_at : (xs : List (Option E)) (i : ℕ) (d : Option E) → Some i ≡ position (hit p) xs → first p xs ≡ get_or xs i d
+    first_at xs i d is = let at = position_some (hit p) xs i is in rw at.0 (first_here xs d at.1)
+
+    pub struck_at : (xs : List (Option E)) (i : ℕ) → Some i ≡ position (hit p) xs → struck p xs ≡ take i xs ++ (drop (suc i) xs ++ (None ∷ []))
+    struck_at xs i is = let at = position_some (hit p) xs i is in rw at.0 (struck_here xs at.1)
+
+    pub within : (xs : List (Option E)) (i : ℕ) → Some i ≡ position (hit p) xs → i < length xs
+    within xs i is = let at = position_some (hit p) xs i is in rw at.0 at.1
+
+    pub first_none : (xs : List (Option E)) → None ≡ position (hit p) xs → first p xs ≡ None
+    first_none xs is = first_past xs (position_none (hit p) xs is)
+
+    pub struck_none : (xs : List (Option E)) → None ≡ position (hit p) xs → struck p xs ≡ xs
+    struck_none xs is = struck_past xs (position_none (hit p) xs is)

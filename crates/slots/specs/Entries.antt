@@ -1,5 +1,5 @@
 -- Tables of entries. A table is a list of places; a place is empty or has one entry.
-use Rattle.std.specs.Prelude.{◌≡◌, ℕ, ◌<◌, Bool, true, false, cond, List, [], ◌∷◌, ◌++◌, length, take, is_some, Some, None, count_by, Option, slice_index_or}
+use Rattle.std.specs.Prelude.{◌≡◌, ℕ, Bool, false, cond, List, [], ◌∷◌, ◌++◌, length, is_some, Some, None, count_by, Option}
 use Rattle.std.specs.List.{prefix_len}
 
 -- the entries of a table, in the order of their places
@@ -35,12 +35,6 @@ struck p (Some x ∷ xs) = cond (p x) (xs ++ (None ∷ [])) (Some x ∷ struck p
 abbrev pub hit : {E : Type 0} → (E → Bool) → Option E → Bool
 hit p None = false
 hit p (Some x) = p x
-
--- i is the first place whose entry passes the test
-pub record Found {E : Type 0} (p : E → Bool) (xs : List (Option E)) (i : ℕ) : Type 0 where
-  pub within : i < length xs
-  pub none_before : times p (take i xs) ≡ 0
-  pub here : (d : Option E) → hit p (slice_index_or xs i d) ≡ true
 
 -- the entries stand in the first places, with no empty place between them
 abbrev pub Packed : {E : Type 0} → List (Option E) → Type 0

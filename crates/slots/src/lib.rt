@@ -2,8 +2,8 @@
 // and counting those that match. A place is `None` where it is empty, and an empty place matches nothing.
 #![tactic(auto)]
 
-ghost use Rattle.std.specs.Prelude.{◌≡◌, ◌+◌, ◌<◌, Bool, true, [], ◌∷◌, length, is_some, is_ok, if◌then◌else◌, Some, MatchOption, nat_lt};
-ghost use Rattle.slots.specs.Entries.{Found, entries, first, hit, placed, struck, times};
+ghost use Rattle.std.specs.Prelude.{◌≡◌, ◌+◌, ◌<◌, Bool, true, [], ◌∷◌, length, position, is_none, is_some, is_ok, if◌then◌else◌, Some, nat_lt};
+ghost use Rattle.slots.specs.Entries.{entries, first, hit, placed, struck, times};
 
 // An entry that can be told by a key.
 pub trait Matches<K> {
@@ -19,6 +19,13 @@ pub trait Matches<K> {
 #[derive(Clone, Copy, PartialEq, Eq, Debug)]
 pub struct Full;
 
+// The first empty place.
+fn first_empty<E>(slots: &[Option<E>]) -> Option<usize>
+    ensures { result ≡ position is_none slots.now }
+{
+    slots.iter().position(|slot| slot.is_none())
+}
+
 // Puts `entry` into the first empty place; a full table is refused and stays as it is.
 pub fn place<E: Copy>(slots: &mut [Option<E>], entry: E) -> Result<(), Full>
     ensures after { slots.new ≡ placed entry slots.old }
@@ -26,48 +33,30 @@ pub fn place<E: Copy>(slots: &mut [Option<E>], entry: E) -> Result<(), Full>
     ensures room { (q : E → Bool) → ((e : E) → q e ≡ true) → times q slots.old < length slots.old → is_ok result ≡ true }
     ensures counts { (q : E → Bool) → times q slots.new ≡ times q slots.old + (if is_ok result then times q (Some entry ∷ []) else 0) }
 {
-    for i in 0..slots.len() {
-        if slots[i].is_none() {
-            slots[i] = Some(entry);
-            return Ok(());
-        }
-    }
-    Err(Full)
+    let empty = first_empty(slots).ok_or(Full)?;
+    slots[empty] = Some(entry);
+    Ok(())
 }
 
 // Whether a place has an entry that matches `key`.
 fn hits<K, E: Matches<K>>(slot: &Option<E>, key: &K) -> bool
     ensures { result ≡ hit (E.Matches.fits key.now) slot.now }
 {
-    match slot {
-        Some(entry) => entry.matches(key),
-        None => false,
-    }
+    slot.as_ref().is_some_and(|entry| entry.matches(key))
 }
 
 // How many entries match `key`.
 pub fn count<K, E: Matches<K>>(slots: &[Option<E>], key: &K) -> usize
     ensures { result ≡ times (E.Matches.fits key.now) slots.now }
 {
-    let mut n = 0;
-    for slot in slots {
-        if hits(slot, key) {
-            n += 1;
-        }
-    }
-    n
+    slots.iter().filter(|slot| hits(*slot, key)).count()
 }
 
 // The first place whose entry matches `key`.
 fn find<K, E: Matches<K>>(slots: &[Option<E>], key: &K) -> Option<usize>
-    ensures { MatchOption result (times (E.Matches.fits key.now) slots.now ≡ 0) (Found (E.Matches.fits key.now) slots.now) }
+    ensures { result ≡ position (hit (E.Matches.fits key.now)) slots.now }
 {
-    for (i, slot) in slots.iter().enumerate() {
-        if hits(slot, key) {
-            return Some(i);
-        }
-    }
-    None
+    slots.iter().position(|slot| hits(slot, key))
 }
 
 // The first entry that matches `key`.
@@ -91,6 +80,18 @@ pub fn strike<K, E: Matches<K> + Copy>(slots: &mut [Option<E>], key: &K) -> Opti
     slots[at] = None;
     slots[at..].rotate_left(1);
     gone
+}
+
+// The key that the entries equal to one match.
+#[derive(Clone, Copy)]
+pub struct Exactly<E>(pub E);
+
+impl<E: PartialEq> Matches<Exactly<E>> for E {
+    ghost fits = { λ k e. E.PartialEq.eq e k.0 };
+
+    fn matches(&self, key: &Exactly<E>) -> bool {
+        *self == key.0
+    }
 }
 
 // The key that every entry matches.

@@ -1,7 +1,7 @@
 use Rattle.std.proofs.Common.{◌+◌, [], ◌∷◌, is_some, sym, ap, ◌∙◌, ap₂}
 use Rattle.slots.specs.Entries.{times}
 use Rattle.slots.proofs.Laws.{first_test, times-struck}
-use Rattle.slots.proofs.Strikes.{first_at, first_none, gap_closed, struck_at, struck_none}
+use Rattle.slots.proofs.Strikes.{first_at, first_none, gap_closed, struck_at, struck_none, within}
 use Rattle.slots.proofs.strike.Goals as goal
 
 pub returns-in_err-at : goal.returns-in_err-at
@@ -24,7 +24,7 @@ returns g c =
     let xs = c.args.slots.now in
     let found = c.in_ok-at.ensures in
     let value = c.index-slots-at.is ∙ sym (first_at p xs _ _ found) in
-    let after = gap_closed xs _ _ found.within c.rotate_left.ensures.after ∙ sym (struck_at p xs _ found) in
+    let after = gap_closed xs _ _ (within p xs _ found) c.rotate_left.ensures.after ∙ sym (struck_at p xs _ found) in
     record {
       value = value;
       after = after;
