@@ -1,6 +1,8 @@
 -- The kinds of message and their numbers.
-use Rattle.std.specs.Prelude.{ℕ, cond, List, [], ◌∷◌, Some, None, Option, ◌==◌}
+use Rattle.std.specs.Prelude.{◌≡◌, ℕ, cond, List, [], ◌∷◌, Some, None, Option, Result, IfErr, ◌==◌}
+use Rattle.std.specs.Result.{result_ok}
 use Rattle.link.specs.declared.message.Kind.{Kind}
+use Rattle.link.specs.declared.message.UnknownKind.{UnknownKind}
 use Rattle.link.specs.declared.message.Kind.TheVariants.{Copy, CopyAck, Dirty, DirtyAck, Clean, CleanAck}
 
 abbrev pub kind_number : Kind → ℕ
@@ -19,6 +21,10 @@ kind_among (k ∷ ks) n = cond (n == kind_number k) (Some k) (kind_among ks n)
 -- the kind that has a number, if there is one
 abbrev pub kind_of : ℕ → Option Kind
 kind_of = kind_among (Copy ∷ CopyAck ∷ Dirty ∷ DirtyAck ∷ Clean ∷ CleanAck ∷ [])
+
+-- what a number is read as: the kind that has it, or else the number back
+abbrev pub ReadsKind : ℕ → Result Kind UnknownKind → Type 0
+ReadsKind n r = (result_ok r ≡ kind_of n) × IfErr r (λ e. e.0 ≡ n)
 
 -- the packet number that a message of this kind carries: only copies and their acks have one
 abbrev pub carried : Kind → ℕ → ℕ

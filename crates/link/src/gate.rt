@@ -1,39 +1,49 @@
 // Gates: whether a station may post, and the link's refusal.
 ghost use Rattle.std.specs.Prelude.{◌≡◌};
-ghost use Rattle.link.specs.Gates.{deepened, passed};
+ghost use Rattle.link.specs.Gates.{deeper, gate_of};
 
-// A station's gate: open, or closed at a depth, the number of layers from the one asked down to the one
-// that closed it.
-#[derive(Clone, Copy, PartialEq, Eq, Debug)]
-pub enum Gate {
-    Open,
-    Closed(u8),
-}
+use std::error::Error;
+use std::fmt;
 
-// The refusal of a post: the sender's gate is closed, at this depth.
+// How many stations have a gate.
+pub const STATIONS: u8 = 16;
+
+// The refusal of a post: the sender's gate is closed. The depth is the number of layers from the one asked
+// down to the one that closed it.
 #[derive(Clone, Copy, PartialEq, Eq, Debug)]
 pub struct GateClosed {
     pub depth: u8,
 }
 
-impl Gate {
-    // The gate as the layer above sees it: a closed one is one deeper, up to 255.
-    pub fn deeper(self) -> Gate
-        ensures { result ≡ deepened self }
-    {
-        match self {
-            Gate::Open => Gate::Open,
-            Gate::Closed(depth) => Gate::Closed(depth.saturating_add(1)),
-        }
-    }
+// A station's gate: open, or closed at a depth.
+pub type Gate = Result<(), GateClosed>;
 
-    // Lets a message through an open gate; a closed one refuses it with its depth.
-    pub fn pass(self) -> Result<(), GateClosed>
-        ensures { result ≡ passed self }
+impl GateClosed {
+    // The refusal as the layer above tells it: one deeper, up to 255.
+    pub fn deeper(self) -> GateClosed
+        ensures { result ≡ deeper self }
     {
-        match self {
-            Gate::Open => Ok(()),
-            Gate::Closed(depth) => Err(GateClosed { depth }),
+        GateClosed {
+            depth: self.depth.saturating_add(1),
         }
     }
 }
+
+// A station's gate on a link: above 15 there is none, and such a station finds it closed at depth 0.
+pub fn gate_of(station: u8, gate: Gate) -> Gate
+    ensures { result ≡ gate_of station gate }
+{
+    if station < STATIONS {
+        gate
+    } else {
+        Err(GateClosed { depth: 0 })
+    }
+}
+
+impl fmt::Display for GateClosed {
+    fn fmt<W: fmt::Write>(&self, f: &mut fmt::Formatter<W>) -> fmt::Result {
+        write!(f, "the gate is closed at depth {}", self.depth)
+    }
+}
+
+impl Error for GateClosed {}

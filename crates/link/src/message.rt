@@ -1,6 +1,9 @@
-// Messages, their kinds, and the keys by which they are told.
+// Messages and their kinds.
 ghost use Rattle.std.specs.Prelude.{◌≡◌};
-ghost use Rattle.link.specs.Kinds.{carried, kind_number, kind_of};
+ghost use Rattle.link.specs.Kinds.{ReadsKind, carried, kind_number};
+
+use std::error::Error;
+use std::fmt;
 
 // What a message is for. A copy passes a reference on; dirty asks the owner of a trace to list the sender
 // as one who refers to it, and clean to list it no longer; each has its ack.
@@ -14,12 +17,16 @@ pub enum Kind {
     CleanAck,
 }
 
-impl Kind {
-    // The number by which a message carries the kind.
-    pub fn number(self) -> u8
-        ensures { result ≡ kind_number self }
-    {
-        match self {
+// A number of no kind.
+#[derive(Clone, Copy, PartialEq, Eq, Debug)]
+pub struct UnknownKind(pub u8);
+
+// The number by which a message carries the kind.
+impl From<Kind> for u8 {
+    ghost from_gives = { λ kind number. number ≡ kind_number kind };
+
+    fn from(kind: Kind) -> u8 {
+        match kind {
             Kind::Copy => 1,
             Kind::CopyAck => 2,
             Kind::Dirty => 3,
@@ -28,22 +35,47 @@ impl Kind {
             Kind::CleanAck => 6,
         }
     }
+}
 
-    // The kind with this number, if there is one.
-    pub fn of(number: u8) -> Option<Kind>
-        ensures { result ≡ kind_of number }
-    {
+// The kind with a number, if there is one.
+impl TryFrom<u8> for Kind {
+    type Error = UnknownKind;
+
+    ghost try_from_gives = { ReadsKind };
+
+    fn try_from(number: u8) -> Result<Kind, UnknownKind> {
         match number {
-            1 => Some(Kind::Copy),
-            2 => Some(Kind::CopyAck),
-            3 => Some(Kind::Dirty),
-            4 => Some(Kind::DirtyAck),
-            5 => Some(Kind::Clean),
-            6 => Some(Kind::CleanAck),
-            _ => None,
+            1 => Ok(Kind::Copy),
+            2 => Ok(Kind::CopyAck),
+            3 => Ok(Kind::Dirty),
+            4 => Ok(Kind::DirtyAck),
+            5 => Ok(Kind::Clean),
+            6 => Ok(Kind::CleanAck),
+            _ => Err(UnknownKind(number)),
         }
     }
 }
+
+impl fmt::Display for Kind {
+    fn fmt<W: fmt::Write>(&self, f: &mut fmt::Formatter<W>) -> fmt::Result {
+        f.write_str(match self {
+            Kind::Copy => "copy",
+            Kind::CopyAck => "copy ack",
+            Kind::Dirty => "dirty",
+            Kind::DirtyAck => "dirty ack",
+            Kind::Clean => "clean",
+            Kind::CleanAck => "clean ack",
+        })
+    }
+}
+
+impl fmt::Display for UnknownKind {
+    fn fmt<W: fmt::Write>(&self, f: &mut fmt::Formatter<W>) -> fmt::Result {
+        f.write_str("unknown kind")
+    }
+}
+
+impl Error for UnknownKind {}
 
 // A message as the radio has it, from one station (gauge, relay or logger) to another, about a trace, which
 // is a stretch of readings in its owner's memory. The kind is a number, since a radio can carry any. The
@@ -67,7 +99,7 @@ impl Message {
             _ => 0,
         };
         Message {
-            kind: kind.number(),
+            kind: u8::from(kind),
             sender,
             receiver,
             trace,

@@ -4,7 +4,7 @@ ghost use Rattle.link.specs.Meaning.{Posted, Taken};
 ghost use Rattle.link.specs.Sharing.{in_force, share_meaning};
 ghost use Rattle.link.specs.Layers.{shared_lawful};
 
-use crate::gate::{Gate, GateClosed};
+use crate::gate::{Gate, GateClosed, gate_of};
 use crate::interface::Link;
 use crate::message::Message;
 
@@ -48,7 +48,7 @@ impl<L: Link> Link for Share<L> {
         ensures posted { Posted (share_meaning L.Link.meaning) message self.old self.new result }
         ensures limit_unchanged { self.new.limit ≡ self.old.limit }
     {
-        self.gate(message.sender).pass()?;
+        self.gate(message.sender)?;
         self.below.post(message)
     }
 
@@ -80,9 +80,10 @@ impl<L: Link> Link for Share<L> {
     }
 
     fn gate(&self, station: u8) -> Gate {
-        if station > 15 || self.below.waiting_from(station) >= u16::from(self.limit()) {
-            return Gate::Closed(0);
+        if self.below.waiting_from(station) >= u16::from(self.limit()) {
+            return Err(GateClosed { depth: 0 });
         }
-        self.below.gate(station).deeper()
+        let below = self.below.gate(station).map_err(GateClosed::deeper);
+        gate_of(station, below)
     }
 }
