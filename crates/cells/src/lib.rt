@@ -59,20 +59,14 @@ impl Cell {
     pub fn holds(self) -> bool
         ensures { result ≡ holds self }
     {
-        match self.state {
-            State::Ok => !self.clean,
-            _ => false,
-        }
+        matches!(self.state, State::Ok) && !self.clean
     }
 
     // Whether the station awaits the trace: a copy came, and the owner has not confirmed it.
     pub fn awaits(self) -> bool
         ensures { result ≡ awaits self }
     {
-        match self.state {
-            State::Nil | State::CcitNil => true,
-            _ => false,
-        }
+        matches!(self.state, State::Nil | State::CcitNil)
     }
 
     // Whether this duty is due.

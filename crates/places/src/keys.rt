@@ -1,5 +1,5 @@
 // The keys by which the links tell messages apart.
-ghost use Rattle.link.specs.Messages.{between, of_kind, same, sent_by};
+ghost use Rattle.link.specs.Messages.{between, of_kind, sent_by};
 
 use link::message::Message;
 use slots::Matches;
@@ -18,10 +18,6 @@ pub struct Way {
     pub sender: u8,
     pub receiver: u8,
 }
-
-// The messages that carry the same as this one.
-#[derive(Clone, Copy)]
-pub struct Exactly(pub Message);
 
 impl Matches<Sender> for Message {
     ghost fits = { λ k. sent_by k.0 };
@@ -44,13 +40,5 @@ impl Matches<Way> for Message {
 
     fn matches(&self, key: &Way) -> bool {
         self.sender == key.sender && self.receiver == key.receiver
-    }
-}
-
-impl Matches<Exactly> for Message {
-    ghost fits = { λ k. same k.0 };
-
-    fn matches(&self, key: &Exactly) -> bool {
-        *self == key.0
     }
 }

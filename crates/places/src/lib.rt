@@ -4,14 +4,12 @@
 ghost use Rattle.std.specs.Prelude.{◌≡◌, ◌≤◌, false, [], length, is_ok, count_by};
 ghost use Rattle.std.specs.List.{slice_get};
 ghost use Rattle.slots.specs.Entries.{Packed, entries, first, without};
-ghost use Rattle.link.specs.Gates.{passed};
 ghost use Rattle.link.specs.Messages.{same};
 ghost use Rattle.places.specs.Posting.{end_gate, enqueued};
 
-use crate::keys::Exactly;
-use link::gate::{Gate, GateClosed};
+use link::gate::{Gate, GateClosed, gate_of};
 use link::message::Message;
-use slots::{Every, Matches};
+use slots::{Every, Exactly, Matches};
 
 pub mod keys;
 
@@ -58,31 +56,28 @@ impl Places {
     pub fn at(&self, place: u32) -> Option<Message>
         ensures { result ≡ slice_get (entries self.now.slots) place }
     {
-        if place < PLACES as u32 {
-            self.slots[place as usize]
-        } else {
-            None
-        }
+        self.slots.get(place as usize).copied().flatten()
     }
 
     // A station's gate: closed for every station while all places are taken.
     pub fn gate(&self, station: u8) -> Gate
         ensures { result ≡ end_gate (entries self.now.slots) station }
     {
-        if station > 15 || self.waiting() == PLACES as u16 {
-            Gate::Closed(0)
+        let gate = if self.waiting() == PLACES as u16 {
+            Err(GateClosed { depth: 0 })
         } else {
-            Gate::Open
-        }
+            Ok(())
+        };
+        gate_of(station, gate)
     }
 
     // Lets a message in behind the others if its sender's gate is open; else nothing changes.
     pub fn post(&mut self, message: Message) -> Result<(), GateClosed>
-        ensures value { result ≡ passed (end_gate (entries self.old.slots) message.sender) }
+        ensures value { result ≡ end_gate (entries self.old.slots) message.sender }
         ensures order { entries self.new.slots ≡ enqueued message result (entries self.old.slots) }
         ensures same { is_ok result ≡ false → self.new ≡ self.old }
     {
-        self.gate(message.sender).pass()?;
+        self.gate(message.sender)?;
         // an open gate is an empty place
         let _ = slots::place(&mut self.slots, message);
         Ok(())

@@ -1,5 +1,5 @@
 -- How many entries a table has, and how many of them pass a test.
-use Rattle.std.proofs.Common.{◌≡◌, ℕ, ◌+◌, ◌<◌, ◌≤◌, Bool, true, false, cond, List, [], ◌∷◌, ◌++◌, length, get_or, take, drop, Some, None, count_by, Option, sym, refl, ap, ◌∙◌, arith}
+use Rattle.std.proofs.Common.{◌≡◌, ℕ, ◌+◌, ◌<◌, ◌≤◌, Bool, cond, List, [], ◌∷◌, ◌++◌, length, get_or, take, drop, Some, None, count_by, Option, refl, ap, ◌∙◌, arith}
 use Rattle.std.specs.Option.{option_to_list}
 use Rattle.std.proofs.lemmas.List.{drop_more, take_more}
 use Rattle.std.proofs.lemmas.List.Sums.{sum_by-cons, sum_by-append, count_by-le-length}
@@ -58,18 +58,6 @@ module _ {E : Type 0} where
     unfolding times
     times_le xs = omega (arith, entries_le xs, count_by-le-length p (entries xs))
 
-    times_one : (o : Option E) → times p (o ∷ []) ≡ cond (hit p o) 1 0
-    unfolding times entries
-    times_one None = refl
-    times_one (Some x) = times_some x [] ∙ omega arith
-
-    -- one place more
-    pub times_more : (xs : List (Option E)) (i : ℕ) (o : Option E) → i < length xs → o ≡ get_or xs i o → times p (take (i + 1) xs) ≡ times p (take i xs) + cond (hit p o) 1 0
-    times_more xs i o within read =
-        ap (times p) (take_more xs i o within ∙ ap (λ y. take i xs ++ (y ∷ [])) (sym read))
-        ∙ times-append (take i xs) (o ∷ [])
-        ∙ ap (λ n. times p (take i xs) + n) (times_one o)
-
     -- the places whose entry passes are as many as the entries that pass
     pub count_by-hit : (xs : List (Option E)) → count_by (hit p) xs ≡ times p xs
     unfolding times entries
@@ -77,11 +65,3 @@ module _ {E : Type 0} where
     count_by-hit (None ∷ xs) = omega (arith, sum_by-cons (λ o. cond (hit p o) 1 0) None xs, count_by-hit xs)
     count_by-hit (Some x ∷ xs) =
         omega (arith, sum_by-cons (λ o. cond (hit p o) 1 0) (Some x) xs, count_by-hit xs, times_some x xs)
-
-    neither : (b : Bool) (n : ℕ) → cond b 1 0 + n ≡ 0 → (b ≡ false) × (n ≡ 0)
-    neither true n e = absurd (omega arith)
-    neither false n e = (refl, omega arith)
-
-    -- where no entry passes, neither does the first
-    pub misses : (x : E) (xs : List (Option E)) → times p (Some x ∷ xs) ≡ 0 → (p x ≡ false) × (times p xs ≡ 0)
-    misses x xs none = neither (p x) (times p xs) (sym (times_some x xs) ∙ none)

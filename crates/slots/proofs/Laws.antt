@@ -1,9 +1,10 @@
 -- The laws of placing and striking that the layers above use: what each does to the count of every key,
 -- and, where the entries stand packed, to their order.
-use Rattle.std.proofs.Common.{◌≡◌, ℕ, zero, suc, ◌+◌, ◌<◌, Bool, true, false, cond, ltb, List, [], ◌∷◌, ◌++◌, length, get_or, is_some, Some, None, Option, sym, refl, ap, ◌∙◌, ⊎_elim, le_of_suc-le-suc, add-one, arith}
+use Rattle.std.proofs.Common.{◌≡◌, ℕ, zero, suc, ◌+◌, ◌<◌, Bool, true, false, cond, ltb, List, [], ◌∷◌, ◌++◌, length, is_some, Some, None, Option, sym, refl, ap, ◌∙◌, ⊎_elim, add-one, arith}
 use Rattle.std.proofs.lemmas.List.{append-nil, length_push, nil_from_length}
 use Rattle.std.proofs.lemmas.Bool.{cases_Bool, cond_both, cond-false, cond-true, le-ltb, lt-ltb}
 use Rattle.std.specs.List.{slice_get, prefix_len}
+use Rattle.std.specs.Option.{option_flatten}
 use Rattle.slots.specs.Entries.{entries, first, Packed, placed, struck, times, without}
 use Rattle.slots.proofs.Counts.{entries-append, entries_le, times-append, times_le, times_none, times_some}
 
@@ -159,13 +160,13 @@ module _ {E : Type 0} where
       cond_both (p x) (xs ++ (None ∷ [])) (Some x ∷ struck p xs) Packed
       (λ _. packed_push xs (omega arith)) (λ _. omega (arith, packed_struck p xs (omega arith)))
 
-  -- in a packed table an entry stands at its own number
-  pub nth_packed : (xs : List (Option E)) (i : ℕ) (d : Option E) → Packed xs → i < length xs → slice_get (entries xs) i ≡ get_or xs i d
+  -- in a packed table an entry stands at its own number, and none behind the last
+  pub get_packed : (xs : List (Option E)) (i : ℕ) → Packed xs → slice_get (entries xs) i ≡ option_flatten (slice_get xs i)
   unfolding entries
-  nth_packed [] i d packed within = absurd (omega arith)
-  nth_packed (None ∷ xs) zero d packed within = ap (λ ys. slice_get ys 0) (nil_from_length (entries xs) (sym packed))
-  nth_packed (None ∷ xs) (suc i) d packed within =
+  get_packed [] i packed = refl
+  get_packed (None ∷ xs) zero packed = ap (λ ys. slice_get ys 0) (nil_from_length (entries xs) (sym packed))
+  get_packed (None ∷ xs) (suc i) packed =
       let none = nil_from_length (entries xs) (sym packed) in
-      ap (λ ys. slice_get ys (suc i)) none ∙ sym (ap (λ ys. slice_get ys i) none) ∙ nth_packed xs i d (leading_empty xs (sym packed) ∙ packed) (le_of_suc-le-suc within)
-  nth_packed (Some x ∷ xs) zero d packed within = refl
-  nth_packed (Some x ∷ xs) (suc i) d packed within = nth_packed xs i d (omega arith) (le_of_suc-le-suc within)
+      ap (λ ys. slice_get ys (suc i)) none ∙ sym (ap (λ ys. slice_get ys i) none) ∙ get_packed xs i (leading_empty xs (sym packed) ∙ packed)
+  get_packed (Some x ∷ xs) zero packed = refl
+  get_packed (Some x ∷ xs) (suc i) packed = get_packed xs i (omega arith)

@@ -1,9 +1,9 @@
-use Rattle.std.proofs.Common.{length, sym, ap, ◌∙◌, subst}
+use Rattle.std.proofs.Common.{◌≡◌, Ok, rules, length, sym, ap, ◌∙◌, subst}
 use Rattle.slots.specs.Entries.{Packed, entries}
 use Rattle.slots.proofs.Laws.{entries-placed, length-placed, packed_placed}
 use Rattle.std.proofs.lemmas.Bool.{true≢false}
-use Rattle.link.specs.Gates.{passed}
-use Rattle.places.proofs.Room.{open_passed, room_open}
+use Rattle.places.specs.Posting.{end_gate}
+use Rattle.places.proofs.Room.{room_open}
 use Rattle.places.proofs.Places.post.Goals as goal
 
 pub invariant_of-self : goal.invariant_of-self
@@ -18,8 +18,8 @@ invariant_of-self c =
 pub returns : goal.returns
 returns c =
     let before = c.args.self.now in
-    let answer = sym (ap passed (sym c.gate.ensures) ∙ sym c.in_ok-pass.ensures) in
-    let room = room_open _ _ before.sized (open_passed _ (sym answer)) in
+    let answer : Ok tt ≡ end_gate (entries before.slots) c.args.message.sender = search rules in
+    let room = room_open _ _ before.sized (sym answer) in
     record {
       value = answer;
       order = ap entries c.place.ensures.after ∙ entries-placed _ _ before.packed room;
