@@ -1,22 +1,15 @@
 -- What the links that stand alone hold, and so what they mean.
 use Rattle.std.specs.Prelude.{List}
 use Rattle.slots.specs.Entries.{entries}
-use Rattle.ends.specs.Ends.{basket, row}
+use Rattle.ends.specs.Ends.{end}
 use Rattle.link.specs.Meaning.{Meaning}
-use Rattle.ends.specs.declared.basket.Basket.{Basket}
 use Rattle.link.specs.declared.message.Message.{Message}
-use Rattle.ends.specs.declared.row.Row.{Row}
+use Rattle.ends.specs.declared.end.End.{End}
 
--- the messages in a basket
-abbrev pub contents : Basket → List Message
-contents b = entries b.places.slots
+module _ {O : Type 0} where
+  -- the messages of an end, in the order in which they were posted
+  abbrev pub queue : End O → List Message
+  queue e = entries e.places.slots
 
-abbrev pub basket_meaning : Basket → Meaning
-basket_meaning b = basket (contents b)
-
--- the messages in a row, in the order in which they were posted
-abbrev pub queue : Row → List Message
-queue r = entries r.places.slots
-
-abbrev pub row_meaning : Row → Meaning
-row_meaning r = row (queue r)
+  abbrev pub end_meaning : (List Message → List Message) → End O → Meaning
+  end_meaning offered e = end offered (queue e)

@@ -1,9 +1,0 @@
-use Rattle.std.proofs.Common.{refl}
-use Rattle.ends.specs.Queues.{basket_meaning, contents}
-use Rattle.ends.specs.EndsLemmas.{posted_end}
-use Rattle.ends.proofs.basket.BasketLink.post.Goals as goal
-
-pub returns : goal.returns
-returns c =
-    let done = c.post.ensures in
-    posted_end basket_meaning contents (λ _. refl) _ _ _ _ _ done.value done.order (λ refused i. record { places = done.same refused i })
