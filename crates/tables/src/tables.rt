@@ -1,11 +1,13 @@
 // All that a field keeps, but for its link.
 ghost use Rattle.std.specs.Prelude.{◌≡◌, ltb, if◌then◌else◌, Some, None, nat_lt};
-ghost use Rattle.slots.specs.Entries.{times};
-ghost use Rattle.tables.specs.Copies.{sent_by};
-ghost use Rattle.tables.specs.Kept.{cell_at, list_empty, listed, next_packet, rigged, trace_at, with_cell, with_erased, with_opened, with_spent};
+ghost use Rattle.slots.specs.Entries.{struck, times};
+ghost use Rattle.tables.specs.Copies.{same_hand_on, sent_by};
+ghost use Rattle.tables.specs.Kept.{cell_at, list_empty, listed, next_packet, rigged, trace_at, with_cell, with_erased, with_opened, with_sent, with_spent};
 
-use crate::entries::{HandOn, Received, SentBy};
+use crate::entries::{HandOn, Received};
+use crate::keys::SentBy;
 use cells::{Cell, State};
+use slots::Exactly;
 
 // How many stations a field has at most.
 pub const STATIONS: usize = 16;
@@ -77,12 +79,9 @@ impl Tables {
     pub fn cell(&self, station: u8, trace: u8) -> Cell
         ensures { result ≡ cell_at self.now station trace }
     {
-        let (s, t) = (usize::from(station), usize::from(trace));
-        if s < STATIONS && t < TRACES {
-            self.cells[s][t]
-        } else {
-            Cell::blank()
-        }
+        let traces = self.cells.get(usize::from(station));
+        let cell = traces.and_then(|traces| traces.get(usize::from(trace)));
+        cell.copied().unwrap_or(Cell::blank())
     }
 
     // Puts another cell for a station and a trace; outside the tables nothing changes.
@@ -99,12 +98,10 @@ impl Tables {
     pub fn trace(&self, trace: u8) -> Trace
         ensures { result ≡ trace_at self.now trace }
     {
-        let at = usize::from(trace);
-        if at < TRACES {
-            self.traces[at]
-        } else {
-            UNOPENED
-        }
+        self.traces
+            .get(usize::from(trace))
+            .copied()
+            .unwrap_or(UNOPENED)
     }
 
     // Opens a trace at its owner, which has it in ok, and answers its number; none once 32 are opened.
@@ -139,18 +136,16 @@ impl Tables {
     pub fn next_packet(&self, station: u8) -> Option<u32>
         ensures { result ≡ next_packet self.now station }
     {
-        let at = usize::from(station);
-        if at < STATIONS { self.next[at] } else { None }
+        self.next.get(usize::from(station)).copied().flatten()
     }
 
     // Spends a station's next packet number; 4,294,967,295 is the last.
     pub fn spend(&mut self, station: u8)
         ensures { self.new ≡ with_spent station self.old }
     {
-        let after = match self.next_packet(station) {
-            Some(packet) => packet.checked_add(1),
-            None => None,
-        };
+        let after = self
+            .next_packet(station)
+            .and_then(|packet| packet.checked_add(1));
         if usize::from(station) < STATIONS {
             self.next[usize::from(station)] = after;
         }
@@ -160,13 +155,9 @@ impl Tables {
     pub fn listed(&self, trace: u8) -> u8
         ensures { result ≡ listed self.now trace }
     {
-        let mut stations = 0;
-        for station in 0..STATIONS as u8 {
-            if self.cell(station, trace).listed {
-                stations += 1;
-            }
-        }
-        stations
+        (0..STATIONS as u8)
+            .filter(|station| self.cell(*station, trace).listed)
+            .count() as u8
     }
 
     // How many sent entries of a trace are from a station.
@@ -175,6 +166,20 @@ impl Tables {
     {
         let sender = station;
         slots::count(&self.sent, &SentBy { sender, trace })
+    }
+
+    // Whether there is a sent entry of this hand-on.
+    pub fn has_sent(&self, hand_on: HandOn) -> bool
+        ensures { result ≡ nat_lt 0 (times (same_hand_on hand_on) self.now.sent) }
+    {
+        slots::count(&self.sent, &Exactly(hand_on)) > 0
+    }
+
+    // Strikes the sent entry of a hand-on; where there is none, nothing changes.
+    pub fn strike_sent(&mut self, hand_on: HandOn)
+        ensures { self.new ≡ with_sent (struck (same_hand_on hand_on) self.old.sent) self.old }
+    {
+        let _ = slots::strike(&mut self.sent, &Exactly(hand_on));
     }
 
     // Whether the owner's list is empty: nobody is listed, and no sent entry is the owner's.

@@ -1,16 +1,13 @@
-use Rattle.std.proofs.Common.{set, ap, ◌∙◌, append-nil, arith}
+use Rattle.std.proofs.Common.{set, ap, ◌∙◌, arith}
 use Rattle.std.proofs.lemmas.List.Edits.{map_over_more}
-use Rattle.std.proofs.lemmas.List.{drop_all, get_or_default, take_all}
+use Rattle.std.proofs.lemmas.List.{get_or_default}
 use Rattle.tables.specs.Copies.{freed}
 use Rattle.tables.proofs.entries.free.Goals as goal
 
-pub loop-i-preserved : goal.loop-i-preserved
-loop-i-preserved c =
-    ap (set c.loop-i.received c.loop-i.i) c.freed.ensures
-    ∙ map_over_more (freed c.args.station c.args.trace) _ c.loop-i.received c.loop-i.i _ c.loop-i-test.true c.loop-i.invariant
-    (get_or_default c.loop-i.received c.loop-i.i _ _ (omega arith))
-
-pub returns : goal.returns
-returns c =
-    let inv = c.loop-i.invariant in
-    rw (take_all c.loop-i.i c.args.received.now (omega arith), drop_all c.loop-i.i c.args.received.now (omega arith)) at inv ∙ append-nil _
+pub loop-slot-preserved : goal.loop-slot-preserved
+loop-slot-preserved c =
+    let slots = c.loop-slot.received in
+    let i = c.loop-slot.slot-index in
+    ap (set slots i) c.freed.ensures
+    ∙ map_over_more (freed c.args.station c.args.trace) _ slots i _ (omega arith) c.loop-slot.invariant
+    (get_or_default slots i _ _ (omega arith))

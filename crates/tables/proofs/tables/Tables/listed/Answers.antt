@@ -1,18 +1,18 @@
-use Rattle.std.proofs.Common.{sym, refl, ap, ◌∙◌, arith}
-use Rattle.tables.specs.Kept.{listed_below}
-use Rattle.tables.proofs.Listing.{listed_more}
+use Rattle.std.proofs.Common.{ℕ, refl, ◌∙◌, rules}
+use borrow.Author.Tests.{tests}
+use Rattle.std.proofs.lemmas.Iterator.{YieldsList-from_range}
+use Rattle.std.proofs.lemmas.Iterator.Consumers.{YieldsList-from_filter, count_from_yields_List}
+use Rattle.std.proofs.lemmas.List.Sums.{length-filter}
+use Rattle.std.specs.List.{range_with_len}
+use Rattle.tables.specs.Kept.{cell_at}
+use Rattle.tables.proofs.Listing.{listed_counted}
 use Rattle.tables.proofs.tables.Tables.listed.Goals as goal
-use Rattle.tables.proofs.tables.Tables.listed.Goals.{then-cell, else-cell}
 
-pub loop-station-init : goal.loop-station-init
-unfolding listed_below
-loop-station-init c = (refl, omega arith)
-
-pub loop-station-preserved : goal.loop-station-preserved
-loop-station-preserved c =
-    let is = ap (λ x. x.listed) (sym c.cell.ensures) in
-    let more = listed_more c.args.self.now c.args.trace c.loop-station.station in
-    elim c.if-cell.branch [
-      | then-cell w ↦ (omega (arith, more _ (is ∙ w.if-cell.true)), omega arith)
-      | else-cell w ↦ (omega (arith, more _ (is ∙ w.if-cell.false)), omega arith)
-    ]
+pub returns : goal.returns
+returns c =
+    let T = c.args.self.now in
+    let t = c.args.trace in
+    let lists = λ (s : ℕ). (cell_at T s t).listed in
+    count_from_yields_List c.filter.result _ c.count.ensures.ran
+    (YieldsList-from_filter _ lists (YieldsList-from_range 0 16 16 c.filter.ensures.source refl) c.filter.ensures.closure (λ x r q k. search (rules, tests)))
+    ∙ length-filter lists (range_with_len 0 16) ∙ listed_counted T t 16
