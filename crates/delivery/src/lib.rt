@@ -8,7 +8,7 @@ ghost use Rattle.protocol.specs.Delivery.{acked, delivered, handed, misplaced, o
 use cells::{Duty, State};
 use link::message::{Kind, Message};
 use slots::Every;
-use tables::entries::{Exactly, HandOn, Received, free};
+use tables::entries::{HandOn, Received, free};
 use tables::tables::{ENTRIES, Tables};
 
 // The hand-on that a copy carries out.
@@ -43,7 +43,7 @@ fn misplaced(tables: &Tables, message: Message, kind: Kind) -> bool
     let owner = tables.trace(message.trace).owner;
     match (state, kind) {
         (_, Kind::Copy) => slots::count(&tables.received, &Every) >= ENTRIES,
-        (_, Kind::CopyAck) => slots::count(&tables.sent, &Exactly(acked(message))) == 0,
+        (_, Kind::CopyAck) => !tables.has_sent(acked(message)),
         (_, Kind::Dirty | Kind::Clean) => message.receiver != owner,
         (State::Nil, Kind::DirtyAck) => false,
         (State::Ccit | State::CcitNil, Kind::CleanAck) => false,
@@ -61,7 +61,7 @@ pub fn in_place(tables: &Tables, message: Message) -> Option<Kind>
     if message.sender == message.receiver || !tables.has_trace(message.trace) {
         return None;
     }
-    let kind = Kind::of(message.kind)?;
+    let kind = Kind::try_from(message.kind).ok()?;
     if misplaced(tables, message, kind) {
         return None;
     }
@@ -108,9 +108,7 @@ pub fn bring(tables: &mut Tables, message: Message, kind: Kind)
         }
         // it awaits the trace already
         (_, Kind::Copy) => receive(tables, message, false),
-        (_, Kind::CopyAck) => {
-            let _ = slots::strike(&mut tables.sent, &Exactly(acked(message)));
-        }
+        (_, Kind::CopyAck) => tables.strike_sent(acked(message)),
         (_, Kind::Dirty) => list(tables, message, true, Duty::DirtyAck),
         (_, Kind::Clean) => list(tables, message, false, Duty::CleanAck),
         (_, Kind::DirtyAck) => {

@@ -12,7 +12,7 @@ use link::message::{Kind, Message};
 use protocol::refusal::Refusal;
 use rules::checks::may_send;
 use rules::duties::{done, message_due};
-use tables::entries::DueFrom;
+use tables::keys::DueFrom;
 
 impl<L: Link, M: Mode> Field<L, M> {
     // Sends what a duty of a station and a trace asks for: dirty or clean from the station to the owner, dirty

@@ -1,8 +1,7 @@
 -- What a call on a field is: the checks in their order, and what it does where none refuses.
-use Rattle.std.specs.Prelude.{ℕ, Bool, true, false, cond, List, [], ◌∷◌, Some, None, Ok, Err, Option, Result}
+use Rattle.std.specs.Prelude.{◌≡◌, ℕ, Bool, true, false, cond, List, [], ◌∷◌, Some, None, Ok, Err, Option, Result}
+use Rattle.link.specs.Gates.{Gate}
 use Rattle.link.specs.Meaning.{Meaning}
-use Rattle.link.specs.declared.gate.Gate.{Gate}
-use Rattle.link.specs.declared.gate.Gate.TheVariants.{Open, Closed}
 use Rattle.link.specs.declared.message.Message.{Message}
 use Rattle.tables.specs.declared.tables.Tables.{Tables}
 use Rattle.protocol.specs.Refusals.{Fault, fault, numbered}
@@ -20,8 +19,8 @@ n when b = record { refusal = numbered n; met = b }
 
 -- the refusal of a closed gate, with its depth
 abbrev pub shut : Gate → Check
-shut Open = 15 when false
-shut (Closed d) = record { refusal = record { number = 15; depth = Some d }; met = true }
+shut (Ok done) = 15 when false
+shut (Err closed) = record { refusal = record { number = 15; depth = Some closed.depth }; met = true }
 
 -- the first refusal whose condition holds; none where the call is accepted
 abbrev pub first_refusal : List Check → Option Fault
@@ -55,3 +54,7 @@ told (Err e) = Err (fault e)
 abbrev pub verdict : {A : Type 0} → Option Fault → A → Result A Fault
 verdict None a = Ok a
 verdict (Some f) a = Err f
+
+-- the answer of a function that makes these checks: the first refusal, told by its number, or else this
+abbrev pub Answers : {A : Type 0} → List Check → A → Result A Refusal → Type 0
+Answers checks a r = told r ≡ verdict (first_refusal checks) a

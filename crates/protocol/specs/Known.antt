@@ -1,5 +1,5 @@
 -- What several calls check.
-use Rattle.std.specs.Prelude.{ℕ, Bool, true, not, ltb, List, [], ◌∷◌, Option, nat_lt}
+use Rattle.std.specs.Prelude.{ℕ, Bool, true, not, List, [], ◌∷◌, Option, nat_lt}
 use Rattle.slots.specs.Entries.{times}
 use Rattle.cells.specs.Cells.{holds}
 use Rattle.cells.specs.declared.Cell.{Cell}
@@ -20,7 +20,7 @@ known T s t = 1 when not (in_field T s) ∷ 2 when not (is_opened T t) ∷ []
 
 -- the station holds the trace and has no use of it
 abbrev pub held_unused : Cell → List Check
-held_unused c = 5 when not (holds c) ∷ 8 when ltb 0 c.uses ∷ []
+held_unused c = 5 when not (holds c) ∷ 8 when nat_lt 0 c.uses ∷ []
 
 -- 64 entries stand in the table
 abbrev pub full : {E : Type 0} → List (Option E) → Bool

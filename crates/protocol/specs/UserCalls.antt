@@ -1,5 +1,5 @@
 -- The steps of the calls that a user makes.
-use Rattle.std.specs.Prelude.{ℕ, true, not, ◌&&◌, ltb, List, [], ◌∷◌, ◌++◌, is_some, Some, None, Option, ◌==◌, nat_eq, nat_lt}
+use Rattle.std.specs.Prelude.{ℕ, true, not, ◌&&◌, List, [], ◌∷◌, ◌++◌, is_some, Some, None, Option, ◌==◌, nat_eq, nat_lt}
 use Rattle.slots.specs.Entries.{placed, times}
 use Rattle.link.specs.Kinds.{kind_number}
 use Rattle.link.specs.declared.message.Kind.TheVariants.{Copy}
@@ -81,7 +81,7 @@ may_drop T s t =
     known T s t
     ++ (6 when nat_eq s (trace_at T t).owner
     ∷ held_unused (cell_at T s t)
-    ++ (10 when ltb 0 (times (sent_by s t) T.sent) ∷ []))
+    ++ (10 when nat_lt 0 (times (sent_by s t) T.sent) ∷ []))
 
 -- drop t at s: s gets a clean call duty
 abbrev pub dropping : ℕ → ℕ → Step (Unit {0})

@@ -4,6 +4,8 @@ ghost use Rattle.protocol.specs.Refusals.{fault};
 ghost use Rattle.protocol.specs.declared.refusal.Refusal.TheVariants.{Closed};
 
 use link::gate::GateClosed;
+use std::error::Error;
+use std::fmt;
 
 // The refusals of a field, in the order of their numbers, which begin with 1.
 #[derive(Clone, Copy, PartialEq, Eq, Debug)]
@@ -101,3 +103,15 @@ impl From<GateClosed> for Refusal {
         Refusal::Closed(gate)
     }
 }
+
+impl fmt::Display for Refusal {
+    fn fmt<W: fmt::Write>(&self, f: &mut fmt::Formatter<W>) -> fmt::Result {
+        write!(f, "refused {}", self.number())?;
+        match self.depth() {
+            Some(depth) => write!(f, " at depth {depth}"),
+            None => Ok(()),
+        }
+    }
+}
+
+impl Error for Refusal {}

@@ -1,4 +1,5 @@
 // What a report says of a trace.
+use std::fmt;
 
 // What the owner may do with a trace: nothing more, erase it, or keep it.
 #[derive(Clone, Copy, PartialEq, Eq, Debug)]
@@ -6,6 +7,16 @@ pub enum Word {
     Erased,
     Free,
     Kept,
+}
+
+impl fmt::Display for Word {
+    fn fmt<W: fmt::Write>(&self, f: &mut fmt::Formatter<W>) -> fmt::Result {
+        f.write_str(match self {
+            Word::Erased => "erased",
+            Word::Free => "free",
+            Word::Kept => "kept",
+        })
+    }
 }
 
 // The row of a trace: its number, its owner, the word, and how many stations are listed.

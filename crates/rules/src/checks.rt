@@ -1,6 +1,5 @@
 // The checks of the calls, in their order, but for the gates of the link.
-ghost use Rattle.std.specs.Prelude.{◌≡◌};
-ghost use Rattle.protocol.specs.Calls.{first_refusal, told, verdict};
+ghost use Rattle.protocol.specs.Calls.{Answers};
 ghost use Rattle.protocol.specs.Known.{held_unused, known};
 ghost use Rattle.protocol.specs.UserCalls.{may_drop, may_erase, may_give_back, may_hand_on, may_use, number};
 ghost use Rattle.protocol.specs.HouseCalls.{may_send};
@@ -14,7 +13,7 @@ use tables::tables::{ENTRIES, Tables};
 
 // The station is in the field, and the trace was opened.
 fn known(tables: &Tables, station: u8, trace: u8) -> Result<(), Refusal>
-    ensures { told result ≡ verdict (first_refusal (known tables.now station trace)) tt }
+    ensures { Answers (known tables.now station trace) tt result }
 {
     if !tables.has_station(station) {
         return Err(Refusal::NoStation);
@@ -27,7 +26,7 @@ fn known(tables: &Tables, station: u8, trace: u8) -> Result<(), Refusal>
 
 // The station of the cell holds the trace and has no use of it.
 fn held_unused(cell: Cell) -> Result<(), Refusal>
-    ensures { told result ≡ verdict (first_refusal (held_unused cell)) tt }
+    ensures { Answers (held_unused cell) tt result }
 {
     if !cell.holds() {
         return Err(Refusal::NotHeld);
@@ -40,7 +39,7 @@ fn held_unused(cell: Cell) -> Result<(), Refusal>
 
 // All checks of a use; the answer is the cell with it.
 pub fn may_use(tables: &Tables, station: u8, trace: u8) -> Result<Cell, Refusal>
-    ensures { told result ≡ verdict (first_refusal (may_use tables.now station trace)) (one_more (cell_at tables.now station trace)) }
+    ensures { Answers (may_use tables.now station trace) (one_more (cell_at tables.now station trace)) result }
 {
     known(tables, station, trace)?;
     let cell = tables.cell(station, trace);
@@ -52,7 +51,7 @@ pub fn may_use(tables: &Tables, station: u8, trace: u8) -> Result<Cell, Refusal>
 
 // All checks of a give-back; the answer is the cell without the use.
 pub fn may_give_back(tables: &Tables, station: u8, trace: u8) -> Result<Cell, Refusal>
-    ensures { told result ≡ verdict (first_refusal (may_give_back tables.now station trace)) (one_less (cell_at tables.now station trace)) }
+    ensures { Answers (may_give_back tables.now station trace) (one_less (cell_at tables.now station trace)) result }
 {
     known(tables, station, trace)?;
     tables
@@ -63,7 +62,7 @@ pub fn may_give_back(tables: &Tables, station: u8, trace: u8) -> Result<Cell, Re
 
 // All checks of a drop; the answer is the cell.
 pub fn may_drop(tables: &Tables, station: u8, trace: u8) -> Result<Cell, Refusal>
-    ensures { told result ≡ verdict (first_refusal (may_drop tables.now station trace)) (cell_at tables.now station trace) }
+    ensures { Answers (may_drop tables.now station trace) (cell_at tables.now station trace) result }
 {
     known(tables, station, trace)?;
     if station == tables.trace(trace).owner {
@@ -79,7 +78,7 @@ pub fn may_drop(tables: &Tables, station: u8, trace: u8) -> Result<Cell, Refusal
 
 // All checks of an erasing; the answer is the cell.
 pub fn may_erase(tables: &Tables, station: u8, trace: u8) -> Result<Cell, Refusal>
-    ensures { told result ≡ verdict (first_refusal (may_erase tables.now station trace)) (cell_at tables.now station trace) }
+    ensures { Answers (may_erase tables.now station trace) (cell_at tables.now station trace) result }
 {
     known(tables, station, trace)?;
     if station != tables.trace(trace).owner {
@@ -95,7 +94,7 @@ pub fn may_erase(tables: &Tables, station: u8, trace: u8) -> Result<Cell, Refusa
 
 // All checks of a hand-on but that of the gate; the answer is the packet number.
 pub fn may_hand_on(tables: &Tables, sender: u8, receiver: u8, trace: u8) -> Result<u32, Refusal>
-    ensures { told result ≡ verdict (first_refusal (may_hand_on tables.now sender receiver trace)) (number (next_packet tables.now sender)) }
+    ensures { Answers (may_hand_on tables.now sender receiver trace) (number (next_packet tables.now sender)) result }
 {
     if !tables.has_station(sender) || !tables.has_station(receiver) {
         return Err(Refusal::NoStation);
@@ -117,7 +116,7 @@ pub fn may_hand_on(tables: &Tables, sender: u8, receiver: u8, trace: u8) -> Resu
 
 // All checks of the sending of a duty but that of the gate; the answer is the cell of the duty.
 pub fn may_send(tables: &Tables, duty: Duty, station: u8, trace: u8) -> Result<Cell, Refusal>
-    ensures { told result ≡ verdict (first_refusal (may_send duty tables.now station trace)) (cell_at tables.now station trace) }
+    ensures { Answers (may_send duty tables.now station trace) (cell_at tables.now station trace) result }
 {
     known(tables, station, trace)?;
     let cell = tables.cell(station, trace);
