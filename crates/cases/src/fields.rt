@@ -1,5 +1,5 @@
 // Fields: the worked examples of rigging, opening, dropping, cleaning, numbering, gates and reports.
-use crate::{handed_on, play, refused};
+use crate::support::{handed_on, play, refused, to_ccitnil};
 use cells::{Duty, State};
 use ends::basket::Basket;
 use ends::row::Row;
@@ -14,18 +14,18 @@ const LAST: u32 = 4294967295;
 
 #[test]
 fn two_to_sixteen_stations_rig(rt: HostRuntime) {
-    assert_eq!(rt; refused(Rigging::new(2, 0)), 0);
-    assert_eq!(rt; refused(Rigging::new(16, 0)), 0);
-    assert_eq!(rt; refused(Rigging::new(1, 0)), 20);
-    assert_eq!(rt; refused(Rigging::new(17, 0)), 20);
+    assert_eq!(rt; refused(Rigging::new(2, 0)), None);
+    assert_eq!(rt; refused(Rigging::new(16, 0)), None);
+    assert_eq!(rt; refused(Rigging::new(1, 0)), Some(20));
+    assert_eq!(rt; refused(Rigging::new(17, 0)), Some(20));
 }
 
 #[test]
 fn the_thirty_third_trace_is_refused(rt: HostRuntime) -> Result<(), Fail> {
     let mut field = Field::new(Rigging::new(2, 0)?, Row::new());
-    play(&rt, &mut field, &[(Call::Open(0), 0); 31]);
+    play(&rt, &mut field, &[(Call::Open(0), None); 31]);
     assert_eq!(rt; field.open(1)?, 31);
-    assert_eq!(rt; refused(field.open(0)), 3);
+    assert_eq!(rt; refused(field.open(0)), Some(3));
     Ok(())
 }
 
@@ -34,18 +34,18 @@ fn a_drop_waits_for_the_copy_ack(rt: HostRuntime) -> Result<(), Fail> {
     let mut field = Field::new(Rigging::new(3, 7)?, Row::new());
     play(&rt, &mut field, &handed_on(7));
     let calls = [
-        (Call::Deliver(0), 0),
-        (Call::HandOn(1, 2, 0), 0),
-        (Call::Drop(1, 0), 10),
-        (Call::Deliver(0), 0),
-        (Call::Send(Duty::Dirty, 2, 0), 0),
-        (Call::Deliver(0), 0),
-        (Call::Send(Duty::DirtyAck, 2, 0), 0),
-        (Call::Deliver(0), 0),
-        (Call::CopyAck(2, 1, 7), 0),
-        (Call::Drop(1, 0), 10),
-        (Call::Deliver(0), 0),
-        (Call::Drop(1, 0), 0),
+        (Call::Deliver(0), None),
+        (Call::HandOn(1, 2, 0), None),
+        (Call::Drop(1, 0), Some(10)),
+        (Call::Deliver(0), None),
+        (Call::Send(Duty::Dirty, 2, 0), None),
+        (Call::Deliver(0), None),
+        (Call::Send(Duty::DirtyAck, 2, 0), None),
+        (Call::Deliver(0), None),
+        (Call::CopyAck(2, 1, 7), None),
+        (Call::Drop(1, 0), Some(10)),
+        (Call::Deliver(0), None),
+        (Call::Drop(1, 0), None),
     ];
     play(&rt, &mut field, &calls);
     Ok(())
@@ -59,9 +59,9 @@ fn a_copy_in_ok_strikes_the_clean_duty(rt: HostRuntime) -> Result<(), Fail> {
         &rt,
         &mut field,
         &[
-            (Call::Deliver(0), 0),
-            (Call::Drop(1, 0), 0),
-            (Call::HandOn(0, 1, 0), 0),
+            (Call::Deliver(0), None),
+            (Call::Drop(1, 0), None),
+            (Call::HandOn(0, 1, 0), None),
         ],
     );
     assert!(rt; field.cell(1, 0).clean);
@@ -69,9 +69,9 @@ fn a_copy_in_ok_strikes_the_clean_duty(rt: HostRuntime) -> Result<(), Fail> {
         &rt,
         &mut field,
         &[
-            (Call::Deliver(0), 0),
-            (Call::Send(Duty::Clean, 1, 0), 16),
-            (Call::CopyAck(1, 0, 1), 0),
+            (Call::Deliver(0), None),
+            (Call::Send(Duty::Clean, 1, 0), Some(16)),
+            (Call::CopyAck(1, 0, 1), None),
         ],
     );
     assert!(rt; field.cell(1, 0).holds());
@@ -82,21 +82,18 @@ fn a_copy_in_ok_strikes_the_clean_duty(rt: HostRuntime) -> Result<(), Fail> {
 fn a_copy_in_ccit_makes_ccitnil(rt: HostRuntime) -> Result<(), Fail> {
     let mut field = Field::new(Rigging::new(2, 0)?, Row::new());
     play(&rt, &mut field, &handed_on(0));
-    let calls = [
-        (Call::Deliver(0), 0),
-        (Call::Drop(1, 0), 0),
-        (Call::Send(Duty::Clean, 1, 0), 0),
-        (Call::HandOn(0, 1, 0), 0),
-        (Call::Deliver(1), 0),
-        (Call::Send(Duty::Dirty, 1, 0), 17),
-    ];
-    play(&rt, &mut field, &calls);
+    play(&rt, &mut field, &to_ccitnil());
+    play(
+        &rt,
+        &mut field,
+        &[(Call::Send(Duty::Dirty, 1, 0), Some(17))],
+    );
     assert_eq!(rt; field.cell(1, 0).state, State::CcitNil);
     let calls = [
-        (Call::Deliver(0), 0),
-        (Call::Send(Duty::CleanAck, 1, 0), 0),
-        (Call::Deliver(0), 0),
-        (Call::Send(Duty::Dirty, 1, 0), 0),
+        (Call::Deliver(0), None),
+        (Call::Send(Duty::CleanAck, 1, 0), None),
+        (Call::Deliver(0), None),
+        (Call::Send(Duty::Dirty, 1, 0), None),
     ];
     play(&rt, &mut field, &calls);
     assert_eq!(rt; field.cell(1, 0).state, State::Nil);
@@ -107,9 +104,9 @@ fn a_copy_in_ccit_makes_ccitnil(rt: HostRuntime) -> Result<(), Fail> {
 #[test]
 fn the_last_packet_number_is_a_good_one(rt: HostRuntime) -> Result<(), Fail> {
     let mut field = Field::new(Rigging::new(2, LAST)?, Row::new());
-    play(&rt, &mut field, &[(Call::Open(0), 0)]);
+    play(&rt, &mut field, &[(Call::Open(0), None)]);
     assert_eq!(rt; field.hand_on(0, 1, 0)?, LAST);
-    assert_eq!(rt; refused(field.hand_on(0, 1, 0)), 14);
+    assert_eq!(rt; refused(field.hand_on(0, 1, 0)), Some(14));
     Ok(())
 }
 
@@ -119,13 +116,13 @@ fn a_share_of_one_closes_at_depth_0(rt: HostRuntime) -> Result<(), Fail> {
     play(
         &rt,
         &mut field,
-        &[(Call::Open(0), 0), (Call::HandOn(0, 1, 0), 0)],
+        &[(Call::Open(0), None), (Call::HandOn(0, 1, 0), None)],
     );
     match field.hand_on(0, 1, 0) {
         Ok(_) => assert!(rt; false),
         Err(refusal) => assert_eq!(rt; (refusal.number(), refusal.depth()), (15, Some(0))),
     }
-    play(&rt, &mut field, &[(Call::Deliver(0), 0)]);
+    play(&rt, &mut field, &[(Call::Deliver(0), None)]);
     assert_eq!(rt; field.hand_on(0, 1, 0)?, 1);
     Ok(())
 }
@@ -134,18 +131,18 @@ fn a_share_of_one_closes_at_depth_0(rt: HostRuntime) -> Result<(), Fail> {
 fn a_dirty_ack_frees_every_blocked_entry(rt: HostRuntime) -> Result<(), Fail> {
     let mut field = Field::new(Rigging::new(2, 0)?, Row::new());
     let calls = [
-        (Call::Open(0), 0),
-        (Call::HandOn(0, 1, 0), 0),
-        (Call::HandOn(0, 1, 0), 0),
-        (Call::Deliver(0), 0),
-        (Call::Deliver(0), 0),
-        (Call::CopyAck(1, 0, 0), 16),
-        (Call::Send(Duty::Dirty, 1, 0), 0),
-        (Call::Deliver(0), 0),
-        (Call::Send(Duty::DirtyAck, 1, 0), 0),
-        (Call::Deliver(0), 0),
-        (Call::CopyAck(1, 0, 1), 0),
-        (Call::CopyAck(1, 0, 0), 0),
+        (Call::Open(0), None),
+        (Call::HandOn(0, 1, 0), None),
+        (Call::HandOn(0, 1, 0), None),
+        (Call::Deliver(0), None),
+        (Call::Deliver(0), None),
+        (Call::CopyAck(1, 0, 0), Some(16)),
+        (Call::Send(Duty::Dirty, 1, 0), None),
+        (Call::Deliver(0), None),
+        (Call::Send(Duty::DirtyAck, 1, 0), None),
+        (Call::Deliver(0), None),
+        (Call::CopyAck(1, 0, 1), None),
+        (Call::CopyAck(1, 0, 0), None),
     ];
     play(&rt, &mut field, &calls);
     Ok(())
@@ -158,9 +155,9 @@ fn the_report_fills_a_row_for_each_trace(rt: HostRuntime) -> Result<(), Fail> {
         &rt,
         &mut field,
         &[
-            (Call::Open(0), 0),
-            (Call::Open(1), 0),
-            (Call::HandOn(0, 1, 0), 0),
+            (Call::Open(0), None),
+            (Call::Open(1), None),
+            (Call::HandOn(0, 1, 0), None),
         ],
     );
     let blank = ReportRow {
@@ -170,7 +167,7 @@ fn the_report_fills_a_row_for_each_trace(rt: HostRuntime) -> Result<(), Fail> {
         listed: 9,
     };
     let mut rows = [blank; 3];
-    assert_eq!(rt; refused(field.report(&mut rows[0..1])), 21);
+    assert_eq!(rt; refused(field.report(&mut rows[0..1])), Some(21));
     assert_eq!(rt; rows, [blank; 3]);
     assert_eq!(rt; field.report(&mut rows)?, 2);
     let kept = ReportRow {

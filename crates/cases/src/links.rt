@@ -1,24 +1,21 @@
 // Messages, and the links that stand alone.
+use crate::support::copy;
 use ends::basket::Basket;
 use ends::row::Row;
-use link::gate::{Gate, GateClosed};
+use link::gate::GateClosed;
 use link::interface::Link;
-use link::message::{Kind, Message};
+use link::message::{Kind, Message, UnknownKind};
 use std::process::Abort;
 use std::test::Fail;
-
-fn copy(sender: u8, receiver: u8, packet: u32) -> Message {
-    Message::new(Kind::Copy, sender, receiver, 0, packet)
-}
 
 // Posts 128 messages, eight from each station: the gates close with the last.
 fn fills<L: Link>(rt: &impl Abort, link: &mut L) {
     for packet in 0..128u32 {
-        assert_eq!(rt; link.gate(15), Gate::Open);
+        assert_eq!(rt; link.gate(15), Ok(()));
         assert_eq!(rt; link.post(copy((packet % 16) as u8, 7, packet)), Ok(()));
     }
-    assert_eq!(rt; link.gate(0), Gate::Closed(0));
-    assert_eq!(rt; link.gate(15), Gate::Closed(0));
+    assert_eq!(rt; link.gate(0), Err(GateClosed { depth: 0 }));
+    assert_eq!(rt; link.gate(15), Err(GateClosed { depth: 0 }));
     assert_eq!(rt; link.post(copy(3, 7, 128)), Err(GateClosed { depth: 0 }));
     assert_eq!(rt; link.waiting(), 128);
     assert_eq!(rt; link.waiting_from(3), 8);
@@ -28,7 +25,7 @@ fn fills<L: Link>(rt: &impl Abort, link: &mut L) {
 // Taking one message opens the gates again, and clearing takes all.
 fn empties<L: Link>(rt: &impl Abort, link: &mut L) {
     assert_eq!(rt; link.take(0), Some(copy(0, 7, 0)));
-    assert_eq!(rt; link.gate(0), Gate::Open);
+    assert_eq!(rt; link.gate(0), Ok(()));
     assert_eq!(rt; link.take(70_000), None);
     assert_eq!(rt; link.waiting(), 127);
     link.clear();
@@ -39,11 +36,11 @@ fn empties<L: Link>(rt: &impl Abort, link: &mut L) {
 
 #[test]
 fn kinds_and_numbers(rt: HostRuntime) -> Result<(), Fail> {
-    assert_eq!(rt; Kind::of(0), None);
-    assert_eq!(rt; Kind::of(7), None);
+    assert_eq!(rt; Kind::try_from(0), Err(UnknownKind(0)));
+    assert_eq!(rt; Kind::try_from(7), Err(UnknownKind(7)));
     for number in 1..7u8 {
-        let kind = Kind::of(number).ok_or("a kind has this number")?;
-        assert_eq!(rt; kind.number(), number);
+        let kind = Kind::try_from(number)?;
+        assert_eq!(rt; u8::from(kind), number);
     }
     assert_eq!(rt; Message::new(Kind::CopyAck, 1, 2, 3, 4).packet, 4);
     assert_eq!(rt; Message::new(Kind::Dirty, 1, 2, 3, 4).packet, 0);
@@ -103,9 +100,9 @@ fn the_same_message_can_wait_twice(rt: HostRuntime) {
 fn station_16_has_no_gate(rt: HostRuntime) {
     let mut row = Row::new();
     let mut basket = Basket::new();
-    assert_eq!(rt; row.gate(15), Gate::Open);
-    assert_eq!(rt; row.gate(16), Gate::Closed(0));
-    assert_eq!(rt; basket.gate(255), Gate::Closed(0));
+    assert_eq!(rt; row.gate(15), Ok(()));
+    assert_eq!(rt; row.gate(16), Err(GateClosed { depth: 0 }));
+    assert_eq!(rt; basket.gate(255), Err(GateClosed { depth: 0 }));
     assert_eq!(rt; row.post(copy(16, 1, 1)), Err(GateClosed { depth: 0 }));
     assert_eq!(rt; basket.post(copy(16, 1, 1)), Err(GateClosed { depth: 0 }));
     assert_eq!(rt; row.post(copy(1, 16, 1)), Ok(()));

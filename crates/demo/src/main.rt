@@ -24,32 +24,18 @@ const RELAY: u8 = 2;
 
 const TRACE: u8 = 0;
 
-fn station_name(station: u8) -> &'static str {
-    match station {
-        GAUGE => "gauge",
-        LOGGER => "logger",
-        RELAY => "relay",
-        _ => "stranger",
-    }
-}
+// A station by its name in the story.
+#[derive(Clone, Copy)]
+struct Station(u8);
 
-fn word_name(word: Word) -> &'static str {
-    match word {
-        Word::Erased => "erased",
-        Word::Free => "free",
-        Word::Kept => "kept",
-    }
-}
-
-fn kind_name(number: u8) -> &'static str {
-    match Kind::of(number) {
-        Some(Kind::Copy) => "copy",
-        Some(Kind::CopyAck) => "copy ack",
-        Some(Kind::Dirty) => "dirty",
-        Some(Kind::DirtyAck) => "dirty ack",
-        Some(Kind::Clean) => "clean",
-        Some(Kind::CleanAck) => "clean ack",
-        None => "unknown kind",
+impl fmt::Display for Station {
+    fn fmt<W: fmt::Write>(&self, f: &mut fmt::Formatter<W>) -> fmt::Result {
+        f.write_str(match self.0 {
+            GAUGE => "gauge",
+            LOGGER => "logger",
+            RELAY => "relay",
+            _ => "stranger",
+        })
     }
 }
 
@@ -60,16 +46,17 @@ struct Shown(Message);
 impl fmt::Display for Shown {
     fn fmt<W: fmt::Write>(&self, f: &mut fmt::Formatter<W>) -> fmt::Result {
         let Shown(message) = *self;
-        let kind = kind_name(message.kind);
-        let packet = message.packet;
-        let trace = message.trace;
-        let sender = station_name(message.sender);
-        let receiver = station_name(message.receiver);
-        write!(f, "{kind} ")?;
-        if matches!(Kind::of(message.kind), Some(Kind::Copy | Kind::CopyAck)) {
-            write!(f, "{packet} ")?;
+        let kind = Kind::try_from(message.kind);
+        match kind {
+            Ok(kind) => write!(f, "{kind} ")?,
+            Err(unknown) => write!(f, "{unknown} ")?,
         }
-        write!(f, "of trace {trace} from {sender} to {receiver}")
+        if matches!(kind, Ok(Kind::Copy | Kind::CopyAck)) {
+            write!(f, "{} ", message.packet)?;
+        }
+        let sender = Station(message.sender);
+        let receiver = Station(message.receiver);
+        write!(f, "of trace {} from {sender} to {receiver}", message.trace)
     }
 }
 
@@ -80,70 +67,56 @@ enum Line {
     Report,
 }
 
+// What a station does about a duty.
+#[derive(Clone, Copy)]
+struct Does(Duty);
+
+impl fmt::Display for Does {
+    fn fmt<W: fmt::Write>(&self, f: &mut fmt::Formatter<W>) -> fmt::Result {
+        f.write_str(match self.0 {
+            Duty::Dirty => "sends dirty",
+            Duty::DirtyAck => "is sent dirty ack",
+            Duty::Clean => "sends clean",
+            Duty::CleanAck => "is sent clean ack",
+        })
+    }
+}
+
 // A call in words.
 #[derive(Clone, Copy)]
 struct Worded(Call);
 
-// A call on a station and a trace, with its words.
-fn in_words(call: Call) -> (u8, &'static str, u8) {
-    match call {
-        Call::Use(s, t) => (s, "uses", t),
-        Call::GiveBack(s, t) => (s, "gives back a use of", t),
-        Call::Drop(s, t) => (s, "drops", t),
-        Call::Erase(s, t) => (s, "erases", t),
-        Call::Send(Duty::Dirty, s, t) => (s, "sends dirty for", t),
-        Call::Send(Duty::DirtyAck, s, t) => (s, "is sent dirty ack for", t),
-        Call::Send(Duty::Clean, s, t) => (s, "sends clean for", t),
-        Call::Send(Duty::CleanAck, s, t) => (s, "is sent clean ack for", t),
-        _ => (0, "", 0),
-    }
-}
-
 impl fmt::Display for Worded {
     fn fmt<W: fmt::Write>(&self, f: &mut fmt::Formatter<W>) -> fmt::Result {
         match self.0 {
-            Call::Open(s) => write!(f, "{} opens a trace", station_name(s)),
-            Call::HandOn(s, d, t) => {
-                write!(
-                    f,
-                    "{} hands trace {t} on to {}",
-                    station_name(s),
-                    station_name(d)
-                )
-            }
-            Call::CopyAck(s, p, k) => {
-                write!(
-                    f,
-                    "{} sends copy ack for {k} of {}",
-                    station_name(s),
-                    station_name(p)
-                )
-            }
+            Call::Open(s) => write!(f, "{} opens a trace", Station(s)),
+            Call::Use(s, t) => write!(f, "{} uses trace {t}", Station(s)),
+            Call::GiveBack(s, t) => write!(f, "{} gives back a use of trace {t}", Station(s)),
+            Call::HandOn(s, d, t) => write!(
+                f,
+                "{} hands trace {t} on to {}",
+                Station(s),
+                Station(d)
+            ),
+            Call::Drop(s, t) => write!(f, "{} drops trace {t}", Station(s)),
+            Call::Erase(s, t) => write!(f, "{} erases trace {t}", Station(s)),
+            Call::CopyAck(s, p, k) => write!(
+                f,
+                "{} sends copy ack for {k} of {}",
+                Station(s),
+                Station(p)
+            ),
+            Call::Send(duty, s, t) => write!(f, "{} {} for trace {t}", Station(s), Does(duty)),
             Call::Deliver(place) => write!(f, "deliver at {place}"),
-            call => {
-                let (station, does, trace) = in_words(call);
-                write!(f, "{} {does} trace {trace}", station_name(station))
-            }
         }
     }
-}
-
-// The answer of a report.
-fn number(answer: Result<u8, Refusal>) -> Result<Option<u32>, Refusal> {
-    Ok(Some(u32::from(answer?)))
 }
 
 fn show_answer(rt: &HostRuntime, answer: Result<Option<u32>, Refusal>) -> io::Result<()> {
     match answer {
         Ok(None) => println!(rt; ": done"),
         Ok(Some(number)) => println!(rt; ": answer {number}"),
-        Err(refusal) => {
-            let number = refusal.number();
-            match refusal.depth() {
-                Some(depth) => println!(rt; ": refused {number} at depth {depth}"),
-                None => println!(rt; ": refused {number}"),
-            }
-        }
+        Err(refusal) => println!(rt; ": {refusal}"),
     }
 }
 
@@ -158,13 +131,12 @@ fn report<L: Link>(rt: &HostRuntime, field: &Field<L, Working>) -> io::Result<()
     let mut rows = [blank; 1];
     print!(rt; "report")?;
     let answer = field.report(&mut rows);
-    show_answer(rt, number(answer))?;
+    show_answer(rt, answer.map(|filled| Some(u32::from(filled))))?;
     for row in &rows {
-        let owner = station_name(row.owner);
-        let word = word_name(row.word);
+        let owner = Station(row.owner);
         println!(rt;
-            "  trace {} of {owner}: {word}, {} listed",
-            row.trace, row.listed
+            "  trace {} of {owner}: {}, {} listed",
+            row.trace, row.word, row.listed
         )?;
     }
     Ok(())
@@ -297,9 +269,6 @@ fn main(rt: HostRuntime) -> io::Result<()> {
             tell(&rt, &mut field, &clean())?;
             tell(&rt, &mut field, &end())
         }
-        Err(refusal) => {
-            let number = refusal.number();
-            println!(rt; "rig: refused {number}")
-        }
+        Err(refusal) => println!(rt; "rig: {refusal}"),
     }
 }

@@ -1,10 +1,9 @@
 -- Calls as values: the step of each.
-use Rattle.std.specs.Prelude.{ℕ, Some, None, Ok, Err, Option, Result}
+use Rattle.std.specs.Prelude.{ℕ, Some, None, Option}
 use Rattle.protocol.specs.Calls.{Step}
 use Rattle.protocol.specs.Delivery.{delivering}
 use Rattle.protocol.specs.HouseCalls.{sending, sending_copy_ack}
 use Rattle.protocol.specs.UserCalls.{dropping, erasing, giving_back, handing_on, making_use, opening}
-use Rattle.protocol.specs.declared.refusal.Refusal.{Refusal}
 use Rattle.script.specs.declared.Call.{Call}
 use Rattle.script.specs.declared.Call.TheVariants.{Open, Use, GiveBack, HandOn, Drop, Erase, CopyAck, Send, Deliver}
 
@@ -14,11 +13,6 @@ just n = Some n
 
 abbrev pub nothing : Unit {0} → Option ℕ
 nothing _ = None
-
--- the same answer, or refusal, in that type
-abbrev pub answered : {A : Type 0} → (A → Option ℕ) → Result A Refusal → Result (Option ℕ) Refusal
-answered f (Ok a) = Ok (f a)
-answered f (Err e) = Err e
 
 -- the same step with its answer in that type
 abbrev pub answering : {A : Type 0} → (A → Option ℕ) → Step A → Step (Option ℕ)

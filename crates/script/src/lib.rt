@@ -1,9 +1,8 @@
 // Calls on a working field as values, and carrying them out.
 #![tactic(auto)]
 
-ghost use Rattle.std.specs.Prelude.{◌≡◌};
 ghost use Rattle.field.specs.Carried.{Carried};
-ghost use Rattle.script.specs.Scripts.{answered, just, nothing, step_of};
+ghost use Rattle.script.specs.Scripts.{step_of};
 
 use cells::Duty;
 use field::Field;
@@ -25,51 +24,22 @@ pub enum Call {
     Deliver(u32),
 }
 
-// An answer that is only that the call was done.
-fn done(answer: Result<(), Refusal>) -> Result<Option<u32>, Refusal>
-    ensures { result ≡ answered nothing answer }
-{
-    match answer {
-        Ok(()) => Ok(None),
-        Err(refusal) => Err(refusal),
-    }
-}
-
-// An answer that is a number.
-fn number(answer: Result<u32, Refusal>) -> Result<Option<u32>, Refusal>
-    ensures { result ≡ answered just answer }
-{
-    match answer {
-        Ok(number) => Ok(Some(number)),
-        Err(refusal) => Err(refusal),
-    }
-}
-
-// An answer that is a trace's number.
-fn opened(answer: Result<u8, Refusal>) -> Result<Option<u32>, Refusal>
-    ensures { result ≡ answered just answer }
-{
-    match answer {
-        Ok(trace) => Ok(Some(u32::from(trace))),
-        Err(refusal) => Err(refusal),
-    }
-}
-
 // Makes the call; the answer has the number of the trace or the packet where the call answers one.
 pub fn carry_out<L: Link>(field: &mut Field<L, Working>, call: Call) -> Result<Option<u32>, Refusal>
     ensures { Carried L.Link.meaning (λ m. m) (step_of call) field.old field.new result }
 {
+    let done = |()| None;
     match call {
-        Call::Open(station) => opened(field.open(station)),
-        Call::Use(station, trace) => done(field.use_trace(station, trace)),
-        Call::GiveBack(station, trace) => done(field.give_back(station, trace)),
-        Call::HandOn(sender, receiver, trace) => number(field.hand_on(sender, receiver, trace)),
-        Call::Drop(station, trace) => done(field.drop_trace(station, trace)),
-        Call::Erase(station, trace) => done(field.erase(station, trace)),
-        Call::CopyAck(station, sender, packet) => done(field.send_copy_ack(
-            station, sender, packet,
-        )),
-        Call::Send(duty, station, trace) => done(field.send(duty, station, trace)),
-        Call::Deliver(place) => done(field.deliver(place)),
+        Call::Open(station) => field.open(station).map(|trace| Some(u32::from(trace))),
+        Call::Use(station, trace) => field.use_trace(station, trace).map(done),
+        Call::GiveBack(station, trace) => field.give_back(station, trace).map(done),
+        Call::HandOn(sender, receiver, trace) => field.hand_on(sender, receiver, trace).map(Some),
+        Call::Drop(station, trace) => field.drop_trace(station, trace).map(done),
+        Call::Erase(station, trace) => field.erase(station, trace).map(done),
+        Call::CopyAck(station, sender, packet) => field
+            .send_copy_ack(station, sender, packet)
+            .map(done),
+        Call::Send(duty, station, trace) => field.send(duty, station, trace).map(done),
+        Call::Deliver(place) => field.deliver(place).map(done),
     }
 }
