@@ -9,22 +9,22 @@ use script::{Call, carry_out};
 use std::process::Abort;
 
 // The number of the refusal, where there is one.
-pub fn refused<T: Drop>(answer: Result<T, Refusal>) -> Option<u8> {
+pub(crate) fn refused<T: Drop>(answer: Result<T, Refusal>) -> Option<u8> {
     answer.err().map(|refusal| refusal.number())
 }
 
 // A call, and the number of the refusal that it should get; none where it should be accepted.
-pub type Step = (Call, Option<u8>);
+pub(crate) type Step = (Call, Option<u8>);
 
 // Makes the calls one after the other.
-pub fn play<L: Link>(rt: &impl Abort, field: &mut Field<L, Working>, calls: &[Step]) {
+pub(crate) fn play<L: Link>(rt: &impl Abort, field: &mut Field<L, Working>, calls: &[Step]) {
     for &(call, number) in calls {
         assert_eq!(rt; refused(carry_out(field, call)), number);
     }
 }
 
 // Station 0 opens trace 0 and hands it on to station 1, which then holds it, and nothing waits.
-pub fn handed_on(first: u32) -> [Step; 8] {
+pub(crate) fn handed_on(first: u32) -> [Step; 8] {
     [
         (Call::Open(0), None),
         (Call::HandOn(0, 1, 0), None),
@@ -38,7 +38,7 @@ pub fn handed_on(first: u32) -> [Step; 8] {
 }
 
 // Station 1, which holds trace 0 of station 0, gives it up and gets it again before its clean is delivered.
-pub fn to_ccitnil() -> [Step; 5] {
+pub(crate) fn to_ccitnil() -> [Step; 5] {
     [
         (Call::Deliver(0), None),
         (Call::Drop(1, 0), None),
@@ -49,6 +49,6 @@ pub fn to_ccitnil() -> [Step; 5] {
 }
 
 // A copy of trace 0.
-pub fn copy(sender: u8, receiver: u8, packet: u32) -> Message {
+pub(crate) fn copy(sender: u8, receiver: u8, packet: u32) -> Message {
     Message::new(Kind::Copy, sender, receiver, 0, packet)
 }

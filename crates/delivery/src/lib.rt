@@ -11,7 +11,7 @@ use slots::Every;
 use tables::entries::{HandOn, Received, free};
 use tables::tables::{ENTRIES, Tables};
 
-// The hand-on that a copy carries out.
+// The hand-on that a copy carries out. No `From` serves, for it or the next: both types are of other crates.
 fn handed(message: Message) -> HandOn
     ensures { result ≡ handed message }
 {

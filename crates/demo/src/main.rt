@@ -60,7 +60,7 @@ impl fmt::Display for Shown {
     }
 }
 
-// A line of the story: a call, or a report.
+// A line of the story: a call, or a report. It is a value, since lines stand in lists.
 #[derive(Clone, Copy)]
 enum Line {
     Make(Call),

@@ -30,8 +30,8 @@ pub struct Field<L: Link, M: Mode> {
 
 impl<L: Link> Field<L, Working> {
     // A working field of the rigged stations over a link, which is cleared. On every day that begins with it, no
-    // list is empty early, every message that waits can be delivered, lists name exactly whom they should, and
-    // few messages wait.
+    // list is empty early, every message that waits can be delivered, lists name exactly the stations that they
+    // should, and few messages wait.
     pub fn new(rigging: Rigging, link: L) -> Self
         ensures tables { result.tables ≡ rigged rigging.stations rigging.first }
         ensures link { (L.Link.meaning result.link).bag ≡ [] }

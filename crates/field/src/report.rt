@@ -40,7 +40,7 @@ impl<L: Link, M: Mode> Field<L, M> {
         if rows.len() < usize::from(self.tables.opened) {
             return Err(Refusal::FewRows);
         }
-        // by number and not by `zip(rows.iter_mut())`, tried: what is written through an adapter's item was not proved
+        // by number, and not by `zip(rows.iter_mut())`, tried: what an adapter's item leaves in the row was not proved
         for trace in 0..self.tables.opened {
             rows[usize::from(trace)] = row_of(&self.tables, trace);
         }

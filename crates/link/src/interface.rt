@@ -32,7 +32,8 @@ pub trait Link {
     fn offers(&self) -> u16
         ensures { result ≡ length (meaning self.now).offers };
 
-    // How many messages wait; like the next two, the answer stops at 65,535.
+    // How many messages wait; like the next two, the answer stops at 65,535. The three are no generic question,
+    // since a link has to know how to count by these two keys and by no other.
     fn waiting(&self) -> u16
         ensures { result ≡ min 65535 (length (meaning self.now).bag) };
 
@@ -40,7 +41,7 @@ pub trait Link {
     fn waiting_from(&self, station: u8) -> u16
         ensures { result ≡ min 65535 (count_by (sent_by station) (meaning self.now).bag) };
 
-    // How many messages with this kind number wait.
+    // How many messages with this kind number wait; it is any number, as in a message.
     fn waiting_of(&self, kind: u8) -> u16
         ensures { result ≡ min 65535 (count_by (of_kind kind) (meaning self.now).bag) };
 

@@ -78,8 +78,8 @@ impl fmt::Display for UnknownKind {
 impl Error for UnknownKind {}
 
 // A message as the radio has it, from one station (gauge, relay or logger) to another, about a trace, which
-// is a stretch of readings in its owner's memory. The kind is a number, since a radio can carry any. The
-// packet number tells the copies that a station sends apart.
+// is a stretch of readings in its owner's memory. The kind is a number and no `Kind`, since a radio can carry
+// any. The packet number tells the copies that a station sends apart.
 #[derive(Clone, Copy, PartialEq, Eq, Debug)]
 pub struct Message {
     pub kind: u8,

@@ -8,7 +8,7 @@ use slots::Matches;
 #[derive(Clone, Copy)]
 pub struct Sender(pub u8);
 
-// The messages with a kind number.
+// The messages with a kind number, which is any number, as in a message.
 #[derive(Clone, Copy)]
 pub struct KindNumber(pub u8);
 

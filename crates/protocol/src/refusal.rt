@@ -55,7 +55,7 @@ pub enum Refusal {
 }
 
 impl Refusal {
-    // The number of the refusal.
+    // The number of the refusal. It is no `From`, since it leaves out the depth.
     pub fn number(self) -> u8
         ensures { result ≡ (fault self).number }
     {

@@ -11,6 +11,7 @@ use link::interface::Link;
 use protocol::refusal::Refusal;
 
 // A call with its arguments: the duty, the station, the other station, the trace or the packet number, or the place.
+// It is a value and no closure, since calls are listed, shown and compared with what they answered.
 #[derive(Clone, Copy)]
 pub enum Call {
     Open(u8),

@@ -12,7 +12,8 @@ pub struct HandOn {
     pub trace: u8,
 }
 
-// A copy that came. It is due for its copy ack, or else blocked until the owner has confirmed the receiver.
+// A copy that came. It is due for its copy ack, or else blocked until the owner has confirmed the receiver; the
+// copy is known in both cases, so that `due` is no `Option`.
 #[derive(Clone, Copy)]
 pub struct Received {
     pub copy: HandOn,

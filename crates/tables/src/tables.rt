@@ -29,15 +29,16 @@ const UNOPENED: Trace = Trace {
     erased: false,
 };
 
-// The tables of a field. Stations and traces go by their numbers.
+// The tables of a field, in fixed memory. Stations and traces go by their numbers. A station and a trace are two
+// parameters and no struct: each call gets two numbers, so it would be made there only to be taken apart here.
 #[derive(Drop)]
 pub struct Tables {
     // how many stations there are
     pub stations: u8,
-    // how many traces were opened
+    // how many traces were opened, which is the number of the next
     pub opened: u8,
     pub traces: [Trace; TRACES],
-    // by station, then trace
+    // by station, then trace; no call writes a cell and a number of one station, so they are in two tables
     pub cells: [[Cell; TRACES]; STATIONS],
     pub sent: [Option<HandOn>; ENTRIES],
     pub received: [Option<Received>; ENTRIES],
@@ -88,6 +89,7 @@ impl Tables {
     pub fn set_cell(&mut self, station: u8, trace: u8, cell: Cell)
         ensures { self.new ≡ with_cell station trace cell self.old }
     {
+        // by index here and below, and not by `get_mut`, tried: what it leaves of the array was not proved
         let (row, column) = (usize::from(station), usize::from(trace));
         if row < STATIONS && column < TRACES {
             self.cells[row][column] = cell;
