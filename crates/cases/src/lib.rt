@@ -12,3 +12,5 @@ mod order;
 mod piles;
 #[cfg(test)]
 mod support;
+#[cfg(test)]
+mod words;
