@@ -40,7 +40,7 @@ impl<L: Link, M: Mode> Field<L, M> {
         if rows.len() < usize::from(self.tables.opened) {
             return Err(Refusal::FewRows);
         }
-        // by number, and not by `zip(rows.iter_mut())`, tried: what an adapter's item leaves in the row was not proved
+        // by trace, and not by row: `rows[..n].iter_mut().enumerate()` would give `trace as u8`, with a bound to prove
         for trace in 0..self.tables.opened {
             rows[usize::from(trace)] = row_of(&self.tables, trace);
         }
