@@ -1,7 +1,6 @@
 -- Messages that are the same, and how often one is in a list.
-use Rattle.std.proofs.Common.{◌≡◌, ℕ, zero, suc, ◌+◌, ◌<◌, true, cond, List, [], ◌∷◌, ◌++◌, length, Some, sum_by, count_by, sym, refl, ◌∙◌, arith}
+use Rattle.std.proofs.Common.{◌≡◌, ℕ, zero, suc, ◌+◌, ◌<◌, true, cond, List, [], ◌∷◌, ◌++◌, Some, sum_by, sym, refl, ◌∙◌, arith}
 use Rattle.std.proofs.lemmas.List.Sums.{sum_by-cons, sum_by_push}
-use Rattle.std.proofs.lemmas.List.Recursion.{is_count_by}
 use Rattle.std.proofs.lemmas.Bool.Decides.{nat_tests}
 use Rattle.std.specs.List.{slice_get}
 use Rattle.slots.specs.Entries.{without}
@@ -21,10 +20,6 @@ same_is k m yes' =
 pub same_self : (m : Message) → same m m ≡ true
 unfolding same
 same_self m = grind (arith, nat_tests)
-
--- a test that every message passes counts them all
-pub count_by-all : {X : Type 0} (xs : List X) → count_by (λ _. true) xs ≡ length xs
-count_by-all xs = sym (is_count_by length (λ _. true) refl (λ x xs. omega arith) xs)
 
 -- how often a message is in a list, element by element
 pub often-cons : (x m : Message) (ms : List Message) → often x (m ∷ ms) ≡ cond (same x m) 1 0 + often x ms
