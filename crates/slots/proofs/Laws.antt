@@ -1,8 +1,9 @@
 -- The laws of placing and striking that the layers above use: what each does to the count of every key,
 -- and, where the entries stand packed, to their order.
-use Rattle.std.proofs.Common.{◌≡◌, ℕ, zero, suc, ◌+◌, ◌<◌, Bool, true, false, cond, ltb, List, [], ◌∷◌, ◌++◌, length, is_some, Some, None, Option, sym, refl, ap, ◌∙◌, ⊎_elim, add-one, arith}
+use Rattle.std.proofs.Common.{◌≡◌, ℕ, zero, suc, ◌+◌, ◌<◌, Bool, true, cond, ltb, List, [], ◌∷◌, ◌++◌, length, is_some, Some, None, Option, sym, refl, ap, ◌∙◌, ⊎_elim, arith}
 use Rattle.std.proofs.lemmas.List.{append-nil, length_push, nil_from_length}
-use Rattle.std.proofs.lemmas.Bool.{cases_Bool, cond_both, cond-false, cond-true, le-ltb, lt-ltb}
+use Rattle.std.proofs.lemmas.Bool.{cases_Bool, cond-false, cond-true, le-ltb}
+use Rattle.std.proofs.lemmas.Bool.Decides.{nat_tests}
 use Rattle.std.specs.List.{slice_get, prefix_len}
 use Rattle.std.specs.Option.{option_flatten}
 use Rattle.slots.specs.Entries.{entries, first, Packed, placed, struck, times, without}
@@ -28,47 +29,22 @@ module _ {E : Type 0} where
   unfolding entries
   room_from_times q [] all few = absurd (omega arith)
   room_from_times q (None ∷ xs) all few = omega (arith, entries_le xs)
-  room_from_times q (Some x ∷ xs) all few =
-      let one : times q (Some x ∷ xs) ≡ 1 + times q xs = times_some q x xs ∙ ap (λ b. cond b 1 0 + times q xs) (all x) in
-      omega (arith, room_from_times q xs all (omega arith))
+  room_from_times q (Some x ∷ xs) all few = grind (arith, room_from_times q xs all, times_some q x xs, all x)
 
   module _ (p : E → Bool) where
-    -- striking: the first entry is the one that goes, or the one that goes stands behind it
-    struck_yes : (x : E) (xs : List (Option E)) → p x ≡ true → struck p (Some x ∷ xs) ≡ xs ++ (None ∷ [])
-    unfolding struck
-    struck_yes x xs yes' = cond-true _ _ _ yes'
-
-    struck_no : (x : E) (xs : List (Option E)) → p x ≡ false → struck p (Some x ∷ xs) ≡ Some x ∷ struck p xs
-    unfolding struck
-    struck_no x xs no' = cond-false _ _ _ no'
-
-    first_yes : (x : E) (xs : List (Option E)) → p x ≡ true → first p (Some x ∷ xs) ≡ Some x
-    unfolding first
-    first_yes x xs yes' = cond-true _ _ _ yes'
-
-    first_no : (x : E) (xs : List (Option E)) → p x ≡ false → first p (Some x ∷ xs) ≡ first p xs
-    unfolding first
-    first_no x xs no' = cond-false _ _ _ no'
-
     -- a table keeps its length
     pub length-struck : (xs : List (Option E)) → length (struck p xs) ≡ length xs
     unfolding struck
     length-struck [] = refl
     length-struck (None ∷ xs) = ap suc (length-struck xs)
-    length-struck (Some x ∷ xs) =
-        cond_both (p x) (xs ++ (None ∷ [])) (Some x ∷ struck p xs) (λ ys. length ys ≡ suc (length xs))
-        (λ _. length_push xs None ∙ add-one (length xs)) (λ _. ap suc (length-struck xs))
+    length-struck (Some x ∷ xs) = grind (arith, length-struck xs, length_push xs None)
 
     -- the entry that goes passes the test
     pub first_passes : (xs : List (Option E)) (y : E) → first p xs ≡ Some y → p y ≡ true
     unfolding first
-    first_passes [] y is = let z : ◌≡◌ {A = ℕ} 0 1 = cc in absurd (omega arith)
+    first_passes [] y is = absurd cc
     first_passes (None ∷ xs) y is = first_passes xs y is
-    first_passes (Some x ∷ xs) y is =
-        ⊎_elim
-        (λ yes'. let same : x ≡ y = cc (sym (first_yes x xs yes') ∙ is) in ap p (sym same) ∙ yes')
-        (λ no'. first_passes xs y (sym (first_no x xs no') ∙ is))
-        (cases_Bool (p x))
+    first_passes (Some x ∷ xs) y is = grind (arith, first_passes xs y)
 
     -- where a match is counted, a strike finds one
     pub first_found : (xs : List (Option E)) → 0 < times p xs → (y : E) × (first p xs ≡ Some y)
@@ -77,10 +53,10 @@ module _ {E : Type 0} where
     first_found (None ∷ xs) some' = first_found xs (omega (arith, times_none p xs))
     first_found (Some x ∷ xs) some' =
         ⊎_elim
-        (λ yes'. (x, first_yes x xs yes'))
+        (λ yes'. (x, cond-true _ _ _ yes'))
         (λ no'.
         let less : times p xs ≡ times p (Some x ∷ xs) = sym (times_some p x xs ∙ ap (λ b. cond b 1 0 + times p xs) no' ∙ omega arith) in
-        let found = first_found xs (omega arith) in (found.0, first_no x xs no' ∙ found.1))
+        let found = first_found xs (omega arith) in (found.0, cond-false _ _ _ no' ∙ found.1))
         (cases_Bool (p x))
 
     -- an entry is found exactly where a match is counted
@@ -88,15 +64,7 @@ module _ {E : Type 0} where
     unfolding first
     first_test [] = sym (le-ltb 0 (times p []) (times_le p []))
     first_test (None ∷ xs) = first_test xs ∙ ap (ltb 0) (sym (times_none p xs))
-    first_test (Some x ∷ xs) =
-        ⊎_elim
-        (λ yes'.
-        let more : 0 < times p (Some x ∷ xs) = omega (arith, times_some p x xs ∙ ap (λ b. cond b 1 0 + times p xs) yes') in
-        ap is_some (first_yes x xs yes') ∙ sym (lt-ltb 0 (times p (Some x ∷ xs)) more))
-        (λ no'.
-        let less : times p (Some x ∷ xs) ≡ times p xs = times_some p x xs ∙ ap (λ b. cond b 1 0 + times p xs) no' ∙ omega arith in
-        ap is_some (first_no x xs no') ∙ first_test xs ∙ ap (ltb 0) (sym less))
-        (cases_Bool (p x))
+    first_test (Some x ∷ xs) = grind (arith, nat_tests, first_test xs, times_some p x xs)
 
     -- the entry that goes is counted once less, and every other as before
     pub times-struck : (q : E → Bool) (xs : List (Option E)) → times q (struck p xs) + times q (first p xs ∷ []) ≡ times q xs
@@ -104,25 +72,14 @@ module _ {E : Type 0} where
     times-struck q [] = omega (arith, times_le q [], times_none q [])
     times-struck q (None ∷ xs) = omega (arith, times_none q (struck p xs), times_none q xs, times-struck q xs)
     times-struck q (Some x ∷ xs) =
-        ⊎_elim
-        (λ yes'.
-        rw (struck_yes x xs yes', first_yes x xs yes')
-        (omega (arith, times-append q xs (None ∷ []), times_none q [], times_le q [], times_some q x [], times_some q x xs)))
-        (λ no'.
-        let rest = times-struck q xs in
-        rw (struck_no x xs no', first_no x xs no') (omega (arith, times_some q x (struck p xs), times_some q x xs)))
-        (cases_Bool (p x))
+        grind (arith, times-struck q xs, times-append q xs (None ∷ []), times_none q [], times_le q [], times_some q x [], times_some q x xs, times_some q x (struck p xs))
 
     -- the other entries keep their order
     pub entries-struck : (xs : List (Option E)) → entries (struck p xs) ≡ without p (entries xs)
     unfolding entries struck without
     entries-struck [] = refl
     entries-struck (None ∷ xs) = entries-struck xs
-    entries-struck (Some x ∷ xs) =
-        ⊎_elim
-        (λ yes'. rw (yes') (entries-append xs (None ∷ []) ∙ append-nil (entries xs)))
-        (λ no'. rw (no') (ap (λ ys. x ∷ ys) (entries-struck xs)))
-        (cases_Bool (p x))
+    entries-struck (Some x ∷ xs) = grind (arith, entries-struck xs, entries-append xs (None ∷ []), append-nil (entries xs))
 
   -- a table with no entries begins with none
   leading_empty : (xs : List (Option E)) → length (entries xs) ≡ 0 → prefix_len is_some xs ≡ 0
@@ -156,9 +113,7 @@ module _ {E : Type 0} where
   packed_struck p (None ∷ xs) packed =
       let none = nil_from_length (entries xs) (sym packed) in
       sym (ap length (entries-struck p xs ∙ ap (without p) none))
-  packed_struck p (Some x ∷ xs) packed =
-      cond_both (p x) (xs ++ (None ∷ [])) (Some x ∷ struck p xs) Packed
-      (λ _. packed_push xs (omega arith)) (λ _. omega (arith, packed_struck p xs (omega arith)))
+  packed_struck p (Some x ∷ xs) packed = grind (arith, packed_push xs, packed_struck p xs)
 
   -- in a packed table an entry stands at its own number, and none behind the last
   pub get_packed : (xs : List (Option E)) (i : ℕ) → Packed xs → slice_get (entries xs) i ≡ option_flatten (slice_get xs i)

@@ -1,5 +1,5 @@
 -- What placing does to a table: it fills the first empty place.
-use Rattle.std.proofs.Common.{◌≡◌, ℕ, suc, ◌<◌, ◌≤◌, List, [], ◌∷◌, length, set, is_none, position, Some, None, Option, refl, ap, arith}
+use Rattle.std.proofs.Common.{◌≡◌, ℕ, ◌<◌, ◌≤◌, List, [], ◌∷◌, length, set, is_none, position, Some, None, Option, refl, ap, arith}
 use Rattle.std.specs.List.{position_or_len}
 use Rattle.slots.specs.Entries.{entries, placed}
 use Rattle.slots.proofs.Counts.{entries_le}
@@ -14,9 +14,7 @@ module _ {E : Type 0} where
   unfolding placed
   placed_first e [] within = absurd (omega arith)
   placed_first e (None ∷ xs) within = refl
-  placed_first e (Some x ∷ xs) within =
-      let further : first_empty (Some x ∷ xs) ≡ suc (first_empty xs) = omega arith in
-      rw further (ap (λ ys. Some x ∷ ys) (placed_first e xs (omega arith)))
+  placed_first e (Some x ∷ xs) within = grind (arith, placed_first e xs)
 
   -- an empty place is room
   room_first : (xs : List (Option E)) → first_empty xs < length xs → length (entries xs) < length xs

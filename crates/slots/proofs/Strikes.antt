@@ -1,9 +1,9 @@
 -- What striking does to a table, place by place.
-use Rattle.std.proofs.Common.{◌≡◌, ℕ, suc, ◌+◌, ◌-◌, ◌<◌, ◌≤◌, Bool, true, false, cond, not, List, [], ◌∷◌, ◌++◌, length, get_or, take, drop, set, position, Some, None, Option, refl, ap, ◌∙◌, ⊎_elim, add-one, arith}
+use Rattle.std.proofs.Common.{◌≡◌, ℕ, suc, ◌-◌, ◌<◌, ◌≤◌, Bool, List, [], ◌∷◌, ◌++◌, length, get_or, take, drop, set, position, Some, None, Option, refl, ap, ◌∙◌, ⊎_elim, add-one, one-add, arith}
 use borrow.Rule.Slice.PartMut.{put_mid}
 use Rattle.std.specs.List.{position_or_len}
 use Rattle.std.proofs.lemmas.List.{append-nil, drop_all, drop-set, length-drop, take_rest, take-set}
-use Rattle.std.proofs.lemmas.Bool.{cases_Bool, cond-false, cond-true}
+use Rattle.std.proofs.lemmas.Bool.{cases_Bool}
 use Rattle.slots.specs.Entries.{first, hit, struck}
 use Rattle.slots.proofs.Positions.{position_none, position_some}
 
@@ -23,56 +23,34 @@ module _ {E : Type 0} where
     abbrev place_of : List (Option E) → ℕ
     place_of xs = position_or_len (hit p) xs
 
-    past : (xs : List (Option E)) → place_of (None ∷ xs) ≡ suc (place_of xs)
-    past xs = omega arith
-
-    here : (x : E) (xs : List (Option E)) → p x ≡ true → place_of (Some x ∷ xs) ≡ 0
-    here x xs yes' = ap (λ b. cond (not b) (1 + place_of xs) 0) yes'
-
-    further : (x : E) (xs : List (Option E)) → p x ≡ false → place_of (Some x ∷ xs) ≡ suc (place_of xs)
-    further x xs no' = ap (λ b. cond (not b) (1 + place_of xs) 0) no' ∙ omega arith
-
     first_here : (xs : List (Option E)) (d : Option E) → place_of xs < length xs → first p xs ≡ get_or xs (place_of xs) d
     unfolding first
     first_here [] d within = absurd (omega arith)
-    first_here (None ∷ xs) d within = rw (past xs) (first_here xs d (omega (arith, past xs)))
-    first_here (Some x ∷ xs) d within =
-        ⊎_elim
-        (λ yes'. rw (here x xs yes') (cond-true _ _ _ yes'))
-        (λ no'. rw (further x xs no') (cond-false _ _ _ no' ∙ first_here xs d (omega (arith, further x xs no'))))
-        (cases_Bool (p x))
+    first_here (None ∷ xs) d within = grind (arith, first_here xs d)
+    first_here (Some x ∷ xs) d within = grind (arith, first_here xs d)
 
     struck_here : (xs : List (Option E)) → place_of xs < length xs → struck p xs ≡ take (place_of xs) xs ++ (drop (suc (place_of xs)) xs ++ (None ∷ []))
     unfolding struck
     struck_here [] within = absurd (omega arith)
-    struck_here (None ∷ xs) within = rw (past xs) (ap (λ ys. None ∷ ys) (struck_here xs (omega (arith, past xs))))
+    struck_here (None ∷ xs) within = rw (one-add) (ap (λ ys. None ∷ ys) (struck_here xs (omega arith)))
     struck_here (Some x ∷ xs) within =
         ⊎_elim
-        (λ yes'. rw (here x xs yes') (cond-true _ _ _ yes'))
-        (λ no'.
-        rw (further x xs no') (cond-false _ _ _ no' ∙ ap (λ ys. Some x ∷ ys) (struck_here xs (omega (arith, further x xs no')))))
+        (λ yes'. rw yes' refl)
+        (λ no'. let less = rw no' at within in rw (no', one-add) (ap (λ ys. Some x ∷ ys) (struck_here xs (omega arith))))
         (cases_Bool (p x))
 
     -- where no entry passes
     first_past : (xs : List (Option E)) → length xs ≤ place_of xs → first p xs ≡ None
     unfolding first
     first_past [] none = refl
-    first_past (None ∷ xs) none = first_past xs (omega (arith, past xs))
-    first_past (Some x ∷ xs) none =
-        ⊎_elim
-        (λ yes'. absurd (omega (arith, here x xs yes')))
-        (λ no'. cond-false _ _ _ no' ∙ first_past xs (omega (arith, further x xs no')))
-        (cases_Bool (p x))
+    first_past (None ∷ xs) none = first_past xs (omega arith)
+    first_past (Some x ∷ xs) none = grind (arith, first_past xs)
 
     struck_past : (xs : List (Option E)) → length xs ≤ place_of xs → struck p xs ≡ xs
     unfolding struck
     struck_past [] none = refl
-    struck_past (None ∷ xs) none = ap (λ ys. None ∷ ys) (struck_past xs (omega (arith, past xs)))
-    struck_past (Some x ∷ xs) none =
-        ⊎_elim
-        (λ yes'. absurd (omega (arith, here x xs yes')))
-        (λ no'. cond-false _ _ _ no' ∙ ap (λ ys. Some x ∷ ys) (struck_past xs (omega (arith, further x xs no'))))
-        (cases_Bool (p x))
+    struck_past (None ∷ xs) none = ap (λ ys. None ∷ ys) (struck_past xs (omega arith))
+    struck_past (Some x ∷ xs) none = grind (arith, struck_past xs)
 
     -- the same by the library's `position`
     pub first_at : (xs : List (Option E)) (i : ℕ) (d : Option E) → Some i ≡ position (hit p) xs → first p xs ≡ get_or xs i d

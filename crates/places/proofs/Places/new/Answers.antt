@@ -5,7 +5,3 @@ use Rattle.places.proofs.Places.new.Goals as goal
 pub invariant_of-result : goal.invariant_of-result
 unfolding entries
 invariant_of-result c = record { sized = refl; packed = refl }
-
-pub returns : goal.returns
-unfolding entries
-returns c = refl

@@ -1,9 +1,9 @@
-use Rattle.std.proofs.Common.{◌≡◌, Ok, rules, length, sym, ap, ◌∙◌, subst}
+use Rattle.std.proofs.Common.{◌≡◌, ◌<◌, arith, Ok, rules, length, sym, ap, ◌∙◌, subst}
 use Rattle.slots.specs.Entries.{Packed, entries}
 use Rattle.slots.proofs.Laws.{entries-placed, length-placed, packed_placed}
-use Rattle.std.proofs.lemmas.Bool.{true≢false}
 use Rattle.places.specs.Posting.{end_gate}
-use Rattle.places.proofs.Room.{room_open}
+use Rattle.slots.proofs.Counts.{entries_le}
+use Rattle.std.proofs.lemmas.Bool.Decides.{nat_tests}
 use Rattle.places.proofs.Places.post.Goals as goal
 
 pub invariant_of-self : goal.invariant_of-self
@@ -15,13 +15,11 @@ invariant_of-self c =
       packed = subst Packed (sym after) (packed_placed _ _ before.packed);
     }
 
-pub returns : goal.returns
-returns c =
+pub returns-clause-order : goal.returns-clause-order
+returns-clause-order c =
     let before = c.args.self.now in
-    let answer : Ok tt ≡ end_gate (entries before.slots) c.args.message.sender = search rules in
-    let room = room_open _ _ before.sized (sym answer) in
-    record {
-      value = answer;
-      order = ap entries c.place.ensures.after ∙ entries-placed _ _ before.packed room;
-      same = λ refused. absurd (true≢false refused);
-    }
+    let xs = before.slots in
+    let answer : Ok tt ≡ end_gate (entries xs) c.args.message.sender = search rules in
+    -- an open gate is an empty place
+    let room : length (entries xs) < length xs = grind (arith, nat_tests, entries_le xs) in
+    ap entries c.place.ensures.after ∙ entries-placed _ _ before.packed room
