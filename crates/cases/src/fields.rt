@@ -10,8 +10,6 @@ use protocol::rigging::Rigging;
 use script::Call;
 use std::test::Fail;
 
-const LAST: u32 = 4294967295;
-
 #[test]
 fn two_to_sixteen_stations_rig(rt: HostRuntime) {
     assert_eq!(rt; refused(Rigging::new(2, 0)), None);
@@ -103,9 +101,9 @@ fn a_copy_in_ccit_makes_ccitnil(rt: HostRuntime) -> Result<(), Fail> {
 
 #[test]
 fn the_last_packet_number_is_a_good_one(rt: HostRuntime) -> Result<(), Fail> {
-    let mut field = Field::new(Rigging::new(2, LAST)?, Row::new());
+    let mut field = Field::new(Rigging::new(2, u32::MAX)?, Row::new());
     play(&rt, &mut field, &[(Call::Open(0), None)]);
-    assert_eq!(rt; field.hand_on(0, 1, 0)?, LAST);
+    assert_eq!(rt; field.hand_on(0, 1, 0)?, u32::MAX);
     assert_eq!(rt; refused(field.hand_on(0, 1, 0)), Some(14));
     Ok(())
 }

@@ -8,8 +8,6 @@ use protocol::rigging::Rigging;
 use script::Call;
 use std::test::Fail;
 
-const LAST: u32 = 4294967295;
-
 const OUT: u8 = 200;
 
 #[test]
@@ -39,7 +37,7 @@ fn opening_and_uses(rt: HostRuntime) -> Result<(), Fail> {
 
 #[test]
 fn handing_on(rt: HostRuntime) -> Result<(), Fail> {
-    let mut field = Field::new(Rigging::new(3, LAST - 63)?, Row::new());
+    let mut field = Field::new(Rigging::new(3, u32::MAX - 63)?, Row::new());
     let calls = [
         (Call::HandOn(0, OUT, OUT), Some(1)),
         (Call::HandOn(OUT, 0, OUT), Some(1)),
@@ -63,7 +61,7 @@ fn handing_on(rt: HostRuntime) -> Result<(), Fail> {
 
 #[test]
 fn numbers_are_checked_before_gates(rt: HostRuntime) -> Result<(), Fail> {
-    let mut field = Field::new(Rigging::new(2, LAST)?, Share::new(Row::new(), 1));
+    let mut field = Field::new(Rigging::new(2, u32::MAX)?, Share::new(Row::new(), 1));
     play(
         &rt,
         &mut field,

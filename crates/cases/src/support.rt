@@ -13,7 +13,7 @@ pub(crate) fn refused<T: Drop>(answer: Result<T, Refusal>) -> Option<u8> {
     answer.err().map(|refusal| refusal.number())
 }
 
-// A call, and the number of the refusal that it should get; none where it should be accepted.
+// A call, and the number of the refusal that it should get, as the rules give it; none where it should be accepted.
 pub(crate) type Step = (Call, Option<u8>);
 
 // Makes the calls one after the other.

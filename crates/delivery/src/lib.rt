@@ -12,7 +12,7 @@ use tables::entries::{HandOn, Received, free};
 use tables::tables::{ENTRIES, Tables};
 
 // The hand-on that a copy carries out. No `From` serves, for it or the next: both types are of other crates.
-fn handed(message: Message) -> HandOn
+pub fn handed(message: Message) -> HandOn
     ensures { result ≡ handed message }
 {
     HandOn {
@@ -27,15 +27,14 @@ fn handed(message: Message) -> HandOn
 fn acked(message: Message) -> HandOn
     ensures { result ≡ acked message }
 {
-    HandOn {
-        packet: message.packet,
+    handed(Message {
         sender: message.receiver,
         receiver: message.sender,
-        trace: message.trace,
-    }
+        ..message
+    })
 }
 
-// Whether a message of a kind cannot be delivered here.
+// Whether a message of a kind cannot be delivered here: a match on state and kind, as in `bring`.
 fn misplaced(tables: &Tables, message: Message, kind: Kind) -> bool
     ensures { result ≡ misplaced tables.now message (Some kind) }
 {
@@ -87,7 +86,8 @@ fn list(tables: &mut Tables, message: Message, listed: bool, ack: Duty)
     tables.set_cell(message.sender, message.trace, cell.with_duty(ack, true));
 }
 
-// Brings a message of a kind into the tables, by the state at the receiver.
+// Brings a message of a kind into the tables, by the state at the receiver. It is one match on both, to be read
+// against the rules line by line, and no table of functions.
 pub fn bring(tables: &mut Tables, message: Message, kind: Kind)
     ensures { tables.new ≡ delivered tables.old message (Some kind) }
 {

@@ -40,7 +40,7 @@ impl<L: Link, M: Mode> Field<L, M> {
         if rows.len() < usize::from(self.tables.opened) {
             return Err(Refusal::FewRows);
         }
-        // by trace, and not by row: `rows[..n].iter_mut().enumerate()` would give `trace as u8`, with a bound to prove
+        // by number, and not `.zip(rows.iter_mut())`, tried: what is written through `zip` was not proved
         for trace in 0..self.tables.opened {
             rows[usize::from(trace)] = row_of(&self.tables, trace);
         }

@@ -5,11 +5,11 @@ ghost use Rattle.protocol.specs.UserCalls.{dropping, erasing, giving_back, handi
 use crate::Field;
 use crate::modes::Working;
 use cells::{Duty, State};
+use delivery::handed;
 use link::interface::Link;
 use link::message::{Kind, Message};
 use protocol::refusal::Refusal;
 use rules::checks::{may_drop, may_erase, may_give_back, may_hand_on, may_use};
-use tables::entries::HandOn;
 
 impl<L: Link> Field<L, Working> {
     // Opens a trace at a station, and answers its number.
@@ -22,7 +22,8 @@ impl<L: Link> Field<L, Working> {
         self.tables.open(station).ok_or(Refusal::TracesSpent)
     }
 
-    // Takes one more use of a trace at a station.
+    // Takes one more use of a trace at a station. This call and the next differ only in their check, which is all
+    // that there is to them.
     pub fn use_trace(&mut self, station: u8, trace: u8) -> Result<(), Refusal>
         ensures { Carried L.Link.meaning (λ m. m) (making_use station trace) self.old self.new result }
     {
@@ -47,14 +48,8 @@ impl<L: Link> Field<L, Working> {
         let packet = may_hand_on(&self.tables, sender, receiver, trace)?;
         let copy = Message::new(Kind::Copy, sender, receiver, trace, packet);
         self.link.post(copy)?;
-        let entry = HandOn {
-            packet,
-            sender,
-            receiver,
-            trace,
-        };
         // there is room: that was checked
-        let _ = slots::place(&mut self.tables.sent, entry);
+        let _ = slots::place(&mut self.tables.sent, handed(copy));
         self.tables.spend(sender);
         Ok(packet)
     }

@@ -1,5 +1,5 @@
 -- The kinds of message and their numbers.
-use Rattle.std.specs.Prelude.{◌≡◌, ℕ, cond, List, [], ◌∷◌, Some, None, Option, Result, IfErr, ◌==◌}
+use Rattle.std.specs.Prelude.{◌≡◌, ℕ, cond, List, [], ◌∷◌, Some, None, Option, Result, IfErr, codes, ◌==◌}
 use Rattle.std.specs.Result.{result_ok}
 use Rattle.link.specs.declared.message.Kind.{Kind}
 use Rattle.link.specs.declared.message.UnknownKind.{UnknownKind}
@@ -12,6 +12,15 @@ kind_number Dirty = 3
 kind_number DirtyAck = 4
 kind_number Clean = 5
 kind_number CleanAck = 6
+
+-- a kind in words
+abbrev pub kind_words : Kind → List ℕ
+kind_words Copy = codes "copy"
+kind_words CopyAck = codes "copy ack"
+kind_words Dirty = codes "dirty"
+kind_words DirtyAck = codes "dirty ack"
+kind_words Clean = codes "clean"
+kind_words CleanAck = codes "clean ack"
 
 -- the kind of these that has a number, if there is one
 abbrev pub kind_among : List Kind → ℕ → Option Kind

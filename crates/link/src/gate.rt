@@ -1,11 +1,11 @@
 // Gates: whether a station may post, and the link's refusal.
-ghost use Rattle.std.specs.Prelude.{◌≡◌};
+ghost use Rattle.std.specs.Prelude.{◌≡◌, ◌++◌, Some, codes, decimal};
 ghost use Rattle.link.specs.Gates.{deeper, gate_of};
 
 use std::error::Error;
 use std::fmt;
 
-// How many stations have a gate.
+// How many stations have a gate. That a field has no more stations is another rule, with a number of its own.
 pub const STATIONS: u8 = 16;
 
 // The refusal of a post: the sender's gate is closed. The depth is the number of layers from the one asked
@@ -41,8 +41,11 @@ pub fn gate_of(station: u8, gate: Gate) -> Gate
 }
 
 impl fmt::Display for GateClosed {
+    ghost output = { λ closed. Some (codes "the gate is closed at depth " ++ decimal closed.depth) };
+
     fn fmt<W: fmt::Write>(&self, f: &mut fmt::Formatter<W>) -> fmt::Result {
-        write!(f, "the gate is closed at depth {}", self.depth)
+        let depth = self.depth;
+        write!(f, "the gate is closed at depth {depth}")
     }
 }
 

@@ -33,7 +33,8 @@ pub trait Link {
         ensures { result ≡ length (meaning self.now).offers };
 
     // How many messages wait; like the next two, the answer stops at 65,535. The three are no generic question,
-    // since a link has to know how to count by these two keys and by no other.
+    // since a link has to know how to count by these two keys and by no other; and none by an enum of the three,
+    // which each link would take apart into three again.
     fn waiting(&self) -> u16
         ensures { result ≡ min 65535 (length (meaning self.now).bag) };
 

@@ -1,6 +1,6 @@
 // Messages and their kinds.
-ghost use Rattle.std.specs.Prelude.{◌≡◌};
-ghost use Rattle.link.specs.Kinds.{ReadsKind, carried, kind_number};
+ghost use Rattle.std.specs.Prelude.{◌≡◌, Some, codes};
+ghost use Rattle.link.specs.Kinds.{ReadsKind, carried, kind_number, kind_words};
 
 use std::error::Error;
 use std::fmt;
@@ -57,6 +57,8 @@ impl TryFrom<u8> for Kind {
 }
 
 impl fmt::Display for Kind {
+    ghost output = { λ kind. Some (kind_words kind) };
+
     fn fmt<W: fmt::Write>(&self, f: &mut fmt::Formatter<W>) -> fmt::Result {
         f.write_str(match self {
             Kind::Copy => "copy",
@@ -70,6 +72,8 @@ impl fmt::Display for Kind {
 }
 
 impl fmt::Display for UnknownKind {
+    ghost output = { λ _. Some (codes "unknown kind") };
+
     fn fmt<W: fmt::Write>(&self, f: &mut fmt::Formatter<W>) -> fmt::Result {
         f.write_str("unknown kind")
     }
@@ -78,8 +82,9 @@ impl fmt::Display for UnknownKind {
 impl Error for UnknownKind {}
 
 // A message as the radio has it, from one station (gauge, relay or logger) to another, about a trace, which
-// is a stretch of readings in its owner's memory. The kind is a number and no `Kind`, since a radio can carry
-// any. The packet number tells the copies that a station sends apart.
+// is a stretch of readings in its owner's memory. The kind is a number, since a radio can carry any: a `Kind` would
+// write only six, and a `Result<Kind, UnknownKind>` the six in two ways. The packet number tells the copies that a
+// station sends apart.
 #[derive(Clone, Copy, PartialEq, Eq, Debug)]
 pub struct Message {
     pub kind: u8,

@@ -12,8 +12,8 @@ use crate::message::Message;
 #[derive(Drop)]
 pub struct Share<L: Link> {
     below: L,
-    // as it was given: 0 counts as 1, and more than 128 as 128. That it stays stands at each call that could
-    // change it: a fact about a change is none about a value, so no type can carry it.
+    // as it was given: 0 counts as 1, and more than 128 as 128. That it stays is said at each call that could change
+    // it: it is given when the program runs, and a const parameter would ask of callers to know it before.
     limit: u8,
 }
 

@@ -8,7 +8,7 @@ use slots::Matches;
 #[derive(Clone, Copy)]
 pub struct Sender(pub u8);
 
-// The messages with a kind number, which is any number, as in a message.
+// The messages with a kind number, which is any number: a message of no kind waits and is counted too.
 #[derive(Clone, Copy)]
 pub struct KindNumber(pub u8);
 

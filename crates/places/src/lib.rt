@@ -16,9 +16,9 @@ pub mod keys;
 // How many messages fit.
 const PLACES: usize = 128;
 
-// Places of which the first are taken, in the order of posting, and the rest are empty. They are a fixed array,
-// since a link has 128 places and no heap; and no `Model`, since a refused post leaves the whole value, not only
-// the messages in it.
+// Places of which the first are taken, in the order of posting, and the rest are empty. They are an array, since
+// the rules speak of 128 places, each empty or taken; and they have no `Model`, since the row reads the slots and the
+// law of an end their number.
 #[derive(Drop)]
 pub struct Places {
     pub slots: [Option<Message>; PLACES],

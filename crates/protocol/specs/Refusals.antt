@@ -1,5 +1,5 @@
 -- The refusals of a field, by their numbers.
-use Rattle.std.specs.Prelude.{ℕ, Some, None, Option}
+use Rattle.std.specs.Prelude.{ℕ, List, ◌++◌, Some, None, Option, codes, decimal}
 use Rattle.protocol.specs.declared.refusal.Refusal.{Refusal}
 use Rattle.protocol.specs.declared.refusal.Refusal.TheVariants.{NoStation, NoTrace, TracesSpent, ToItself, NotHeld, DropByOwner, EraseByOther, InUse, Listed, CopyOut, UsesSpent, NoUse, SentFull, PacketsSpent, Closed, NoDuty, DirtyInCcitNil, NoOffer, OutOfPlace, StationCount, FewRows}
 
@@ -35,3 +35,11 @@ fault NoOffer = numbered 18
 fault OutOfPlace = numbered 19
 fault StationCount = numbered 20
 fault FewRows = numbered 21
+
+-- a refusal as it is shown
+abbrev pub shown_at : ℕ → Option ℕ → List ℕ
+shown_at n None = codes "refused " ++ decimal n
+shown_at n (Some d) = codes "refused " ++ (decimal n ++ (codes " at depth " ++ decimal d))
+
+abbrev pub shown : Fault → List ℕ
+shown f = shown_at f.number f.depth

@@ -1,5 +1,5 @@
 -- The report's rows.
-use Rattle.std.specs.Prelude.{ℕ, zero, suc, Bool, cond, List, [], ◌∷◌, length, Result, nat_lt, slice_set}
+use Rattle.std.specs.Prelude.{ℕ, zero, suc, Bool, cond, List, [], ◌∷◌, length, Result, codes, nat_lt, slice_set}
 use Rattle.protocol.specs.Calls.{◌when◌, first_refusal, verdict}
 use Rattle.protocol.specs.Refusals.{Fault}
 use Rattle.tables.specs.Kept.{list_empty, listed, trace_at}
@@ -11,6 +11,12 @@ use Rattle.protocol.specs.declared.report.Word.TheVariants.{Erased, Free, Kept}
 -- erased; else free when the owner's list is empty; else kept
 abbrev pub word_of : Tables → ℕ → Word
 word_of T t = cond (trace_at T t).erased Erased (cond (list_empty T t) Free Kept)
+
+-- the word as it is shown
+abbrev pub shown_word : Word → List ℕ
+shown_word Erased = codes "erased"
+shown_word Free = codes "free"
+shown_word Kept = codes "kept"
 
 -- the row of a trace
 abbrev pub row_of : Tables → ℕ → Row

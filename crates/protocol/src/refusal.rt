@@ -1,6 +1,6 @@
 // Why a call on a field is refused.
-ghost use Rattle.std.specs.Prelude.{◌≡◌};
-ghost use Rattle.protocol.specs.Refusals.{fault};
+ghost use Rattle.std.specs.Prelude.{◌≡◌, Some};
+ghost use Rattle.protocol.specs.Refusals.{fault, shown};
 ghost use Rattle.protocol.specs.declared.refusal.Refusal.TheVariants.{Closed};
 
 use link::gate::GateClosed;
@@ -105,11 +105,13 @@ impl From<GateClosed> for Refusal {
 }
 
 impl fmt::Display for Refusal {
+    ghost output = { λ refusal. Some (shown (fault refusal)) };
+
     fn fmt<W: fmt::Write>(&self, f: &mut fmt::Formatter<W>) -> fmt::Result {
-        write!(f, "refused {}", self.number())?;
+        let number = self.number();
         match self.depth() {
-            Some(depth) => write!(f, " at depth {depth}"),
-            None => Ok(()),
+            Some(depth) => write!(f, "refused {number} at depth {depth}"),
+            None => write!(f, "refused {number}"),
         }
     }
 }

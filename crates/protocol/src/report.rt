@@ -1,4 +1,7 @@
 // What a report says of a trace.
+ghost use Rattle.std.specs.Prelude.{Some};
+ghost use Rattle.protocol.specs.Reports.{shown_word};
+
 use std::fmt;
 
 // What the owner may do with a trace: nothing more, erase it, or keep it.
@@ -10,6 +13,8 @@ pub enum Word {
 }
 
 impl fmt::Display for Word {
+    ghost output = { λ word. Some (shown_word word) };
+
     fn fmt<W: fmt::Write>(&self, f: &mut fmt::Formatter<W>) -> fmt::Result {
         f.write_str(match self {
             Word::Erased => "erased",

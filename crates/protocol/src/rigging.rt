@@ -18,6 +18,7 @@ impl Rigging {
     pub fn new(stations: u8, first: u32) -> Result<Rigging, Refusal>
         ensures { MatchResult result (λ g. (g.stations ≡ stations) × (g.first ≡ first)) (λ e. (fault e ≡ numbered 20) × (2 ≤ stations → stations ≤ 16 → ⊥)) }
     {
+        // 16 is a rule of fields, and another than how many stations have a gate
         if stations < 2 || stations > 16 {
             return Err(Refusal::StationCount);
         }

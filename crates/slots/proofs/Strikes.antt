@@ -9,14 +9,17 @@ use Rattle.slots.proofs.Positions.{position_none, position_some}
 
 module _ {E : Type 0} where
   -- the place is emptied, and what stands from there on is turned by one
-  pub gap_closed : (xs ys : List (Option E)) (i : ℕ) → i < length xs → ys ≡ drop 1 (take (length (set xs i None) - i) (drop i (set xs i None))) ++ take 1 (take (length (set xs i None) - i) (drop i (set xs i None))) → put_mid i (length (set xs i None) - i) (set xs i None) ys ≡ take i xs ++ (drop (suc i) xs ++ (None ∷ []))
-  gap_closed xs ys i within turned =
+  gap_turned : (xs ys : List (Option E)) (i : ℕ) → i < length xs → ys ≡ drop 1 (take (length (set xs i None) - i) (drop i (set xs i None))) ++ take 1 (take (length (set xs i None) - i) (drop i (set xs i None))) → put_mid i (length (set xs i None) - i) (set xs i None) ys ≡ take i xs ++ (drop (suc i) xs ++ (None ∷ []))
+  gap_turned xs ys i within turned =
       let rest : take (length (set xs i None) - i) (drop i (set xs i None)) ≡ None ∷ drop (suc i) xs =
       take_rest (set xs i None) i ∙ rw add-one at (drop-set xs i None within) in
       let behind : drop (length (set xs i None) - i) (drop i (set xs i None)) ≡ [] =
       drop_all (length (set xs i None) - i) (drop i (set xs i None)) (omega (arith, length-drop i (set xs i None))) in
       let back : ys ≡ drop (suc i) xs ++ (None ∷ []) = rw rest at turned in
       rw (behind, append-nil ys, back, take-set xs i None)
+
+  pub gap_closed : (xs ys : List (Option E)) (i : ℕ) (o : Option E) → o ≡ None → i < length xs → ys ≡ drop 1 (take (length (set xs i o) - i) (drop i (set xs i o))) ++ take 1 (take (length (set xs i o) - i) (drop i (set xs i o))) → put_mid i (length (set xs i o) - i) (set xs i o) ys ≡ take i xs ++ (drop (suc i) xs ++ (None ∷ []))
+  gap_closed xs ys i o none within turned = rw none (gap_turned xs ys i within (rw none at turned))
 
   module _ (p : E → Bool) where
     -- how many places stand before the first one whose entry passes

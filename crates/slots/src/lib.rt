@@ -2,8 +2,11 @@
 // and counting those that match. A place is `None` where it is empty, and an empty place matches nothing.
 #![tactic(auto)]
 
-ghost use Rattle.std.specs.Prelude.{◌≡◌, ◌+◌, ◌<◌, Bool, true, [], ◌∷◌, length, position, is_none, is_some, is_ok, if◌then◌else◌, Some, nat_lt};
+ghost use Rattle.std.specs.Prelude.{◌≡◌, ◌+◌, ◌<◌, Bool, true, [], ◌∷◌, length, position, is_none, is_some, is_ok, if◌then◌else◌, Some, codes, nat_lt};
 ghost use Rattle.slots.specs.Entries.{entries, first, hit, placed, struck, times};
+
+use std::error::Error;
+use std::fmt;
 
 // An entry that can be told by a key.
 pub trait Matches<K> {
@@ -25,6 +28,16 @@ fn first_empty<E>(slots: &[Option<E>]) -> Option<usize>
 {
     slots.iter().position(|slot| slot.is_none())
 }
+
+impl fmt::Display for Full {
+    ghost output = { λ _. Some (codes "no place is empty") };
+
+    fn fmt<W: fmt::Write>(&self, f: &mut fmt::Formatter<W>) -> fmt::Result {
+        f.write_str("no place is empty")
+    }
+}
+
+impl Error for Full {}
 
 // Puts `entry` into the first empty place; a full table is refused and stays as it is.
 pub fn place<E: Copy>(slots: &mut [Option<E>], entry: E) -> Result<(), Full>
@@ -76,8 +89,7 @@ pub fn strike<K, E: Matches<K> + Copy>(slots: &mut [Option<E>], key: &K) -> Opti
     ensures counts { (q : E → Bool) → times q slots.new + times q (result ∷ []) ≡ times q slots.old }
 {
     let at = find(slots, key)?;
-    let gone = slots[at];
-    slots[at] = None;
+    let gone = slots[at].take();
     slots[at..].rotate_left(1);
     gone
 }

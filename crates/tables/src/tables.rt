@@ -29,8 +29,10 @@ const UNOPENED: Trace = Trace {
     erased: false,
 };
 
-// The tables of a field, in fixed memory. Stations and traces go by their numbers. A station and a trace are two
-// parameters and no struct: each call gets two numbers, so it would be made there only to be taken apart here.
+// The tables of a field: arrays of fixed sizes, which are rules of a field, with places that are empty or taken, of
+// which the rules speak too. Stations and traces go by their numbers. A station and a trace are two parameters here and
+// above, and so are a sender and a receiver: each call is given numbers, and a struct would be made there
+// (`let at = At { station, trace };`) only to be taken apart here.
 #[derive(Drop)]
 pub struct Tables {
     // how many stations there are
@@ -38,7 +40,7 @@ pub struct Tables {
     // how many traces were opened, which is the number of the next
     pub opened: u8,
     pub traces: [Trace; TRACES],
-    // by station, then trace; no call writes a cell and a number of one station, so they are in two tables
+    // by station, then trace; a cell and a packet number of one station are never written together
     pub cells: [[Cell; TRACES]; STATIONS],
     pub sent: [Option<HandOn>; ENTRIES],
     pub received: [Option<Received>; ENTRIES],
@@ -89,7 +91,8 @@ impl Tables {
     pub fn set_cell(&mut self, station: u8, trace: u8, cell: Cell)
         ensures { self.new ≡ with_cell station trace cell self.old }
     {
-        // by index here and below, and not by `get_mut`, tried: what it leaves of the array was not proved
+        // by index here and below, and not by `get_mut`, tried in `erase` and `spend`: what the borrow leaves of the
+        // array was not proved
         let (row, column) = (usize::from(station), usize::from(trace));
         if row < STATIONS && column < TRACES {
             self.cells[row][column] = cell;

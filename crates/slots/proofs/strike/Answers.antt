@@ -23,8 +23,8 @@ returns g c =
     let p = g.E.Matches.fits c.args.key.now in
     let xs = c.args.slots.now in
     let found = c.in_ok-at.ensures in
-    let value = c.index-slots-at.is ∙ sym (first_at p xs _ _ found) in
-    let after = gap_closed xs _ _ (within p xs _ found) c.rotate_left.ensures.after ∙ sym (struck_at p xs _ found) in
+    let value = c.take-gone.ensures.value ∙ sym (first_at p xs _ _ found) in
+    let after = gap_closed xs _ _ _ c.take-gone.ensures.after (within p xs _ found) c.rotate_left.ensures.after ∙ sym (struck_at p xs _ found) in
     record {
       value = value;
       after = after;
