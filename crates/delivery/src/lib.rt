@@ -1,4 +1,5 @@
-// Deliveries, as far as the tables go: which messages are out of place, and what the others change.
+// Deliveries, as far as the tables go: which messages are out of place, and what the others change. Tables and message
+// are two parameters and no struct: it would hold the tables borrowed and say nothing of its own.
 #![tactic(auto)]
 
 ghost use Rattle.std.specs.Prelude.{◌≡◌, true, false, Some, MatchOption};
