@@ -1,11 +1,6 @@
-use Rattle.std.proofs.Common.{[], refl}
-use Rattle.protocol.specs.UserCalls.{erasing, may_erase}
-use Rattle.field.proofs.Carrying.{refused_early}
+use Rattle.std.proofs.Common.{arith}
+use Rattle.std.proofs.lemmas.Grind.{common_steps}
 use Rattle.field.proofs.user_calls.Field+L+Working.erase.Goals as goal
 
 pub returns-in_err-cell : goal.returns-in_err-cell
-returns-in_err-cell g c =
-    let a = c.args in
-    let field = a.self.now in
-    refused_early g.L.Link.meaning (λ m. m) (erasing a.station a.trace) field (may_erase field.tables a.station a.trace)
-    [] _ _ c.from_residual.result refl c.in_err-cell.ensures c.from_residual.ensures.1
+returns-in_err-cell g c = grind (arith, common_steps)
