@@ -3,14 +3,4 @@
 
 mod entry_tables;
 #[cfg(test)]
-mod fields;
-#[cfg(test)]
-mod links;
-#[cfg(test)]
-mod order;
-#[cfg(test)]
-mod piles;
-#[cfg(test)]
-mod support;
-#[cfg(test)]
-mod words;
+mod tests;

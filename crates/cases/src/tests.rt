@@ -1,4 +1,4 @@
-// What several cases share: calls with the answers that they should get, and messages.
+// The cases, and what several of them share: calls with the answers that they should get, and messages.
 use cells::Duty;
 use field::Field;
 use field::modes::Working;
@@ -8,23 +8,29 @@ use protocol::refusal::Refusal;
 use script::{Call, carry_out};
 use std::process::Abort;
 
+mod fields;
+mod links;
+mod order;
+mod piles;
+mod words;
+
 // The number of the refusal, where there is one.
-pub(crate) fn refused<T: Drop>(answer: Result<T, Refusal>) -> Option<u8> {
+fn refused<T: Drop>(answer: Result<T, Refusal>) -> Option<u8> {
     answer.err().map(|refusal| refusal.number())
 }
 
 // A call, and the number of the refusal that it should get, as the rules give it; none where it should be accepted.
-pub(crate) type Step = (Call, Option<u8>);
+type Step = (Call, Option<u8>);
 
 // Makes the calls one after the other.
-pub(crate) fn play<L: Link>(rt: &impl Abort, field: &mut Field<L, Working>, calls: &[Step]) {
+fn play<L: Link>(rt: &impl Abort, field: &mut Field<L, Working>, calls: &[Step]) {
     for &(call, number) in calls {
         assert_eq!(rt; refused(carry_out(field, call)), number);
     }
 }
 
 // Station 0 opens trace 0 and hands it on to station 1, which then holds it, and nothing waits.
-pub(crate) fn handed_on(first: u32) -> [Step; 8] {
+fn handed_on(first: u32) -> [Step; 8] {
     [
         (Call::Open(0), None),
         (Call::HandOn(0, 1, 0), None),
@@ -38,7 +44,7 @@ pub(crate) fn handed_on(first: u32) -> [Step; 8] {
 }
 
 // Station 1, which holds trace 0 of station 0, gives it up and gets it again before its clean is delivered.
-pub(crate) fn to_ccitnil() -> [Step; 5] {
+fn to_ccitnil() -> [Step; 5] {
     [
         (Call::Deliver(0), None),
         (Call::Drop(1, 0), None),
@@ -49,6 +55,6 @@ pub(crate) fn to_ccitnil() -> [Step; 5] {
 }
 
 // A copy of trace 0.
-pub(crate) fn copy(sender: u8, receiver: u8, packet: u32) -> Message {
+fn copy(sender: u8, receiver: u8, packet: u32) -> Message {
     Message::new(Kind::Copy, sender, receiver, 0, packet)
 }

@@ -1,5 +1,5 @@
 // Messages, and the links that stand alone.
-use crate::support::copy;
+use super::copy;
 use ends::basket::Basket;
 use ends::row::Row;
 use link::gate::GateClosed;

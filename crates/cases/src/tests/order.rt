@@ -1,5 +1,5 @@
 // The order of refusals: for each call, arguments under which two conditions hold.
-use crate::support::{handed_on, play, to_ccitnil};
+use super::{handed_on, play, to_ccitnil};
 use cells::Duty;
 use ends::row::Row;
 use field::Field;

@@ -1,5 +1,5 @@
 // Shares, alone and in piles.
-use crate::support::copy;
+use super::copy;
 use ends::basket::Basket;
 use ends::row::Row;
 use link::gate::{Gate, GateClosed};

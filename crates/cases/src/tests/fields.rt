@@ -1,5 +1,5 @@
 // Fields: the worked examples of rigging, opening, dropping, cleaning, numbering, gates and reports.
-use crate::support::{handed_on, play, refused, to_ccitnil};
+use super::{handed_on, play, refused, to_ccitnil};
 use cells::{Duty, State};
 use ends::basket::Basket;
 use ends::row::Row;
