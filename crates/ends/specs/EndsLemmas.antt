@@ -36,7 +36,7 @@ pub all_drawn : (queue : List Message) → Drawn queue queue
 all_drawn queue = record { times = λ x. omega arith; some = λ some'. some'; few = omega arith }
 
 -- and so are its fronts
-fronts_often : (older queue : List Message) (x : Message) → often x (fronts older queue) ≤ often x queue
+pub fronts_often : (older queue : List Message) (x : Message) → often x (fronts older queue) ≤ often x queue
 unfolding fronts
 fronts_often older [] x = omega arith
 fronts_often older (m ∷ queue) x =
@@ -46,7 +46,7 @@ fronts_often older (m ∷ queue) x =
     (λ _. omega (arith, often-cons x m queue))
     (λ _. omega (arith, often-cons x m queue, often-cons x m more))
 
-fronts_le : (older queue : List Message) → length (fronts older queue) ≤ length queue
+pub fronts_le : (older queue : List Message) → length (fronts older queue) ≤ length queue
 unfolding fronts
 fronts_le older [] = omega arith
 fronts_le older (m ∷ queue) =

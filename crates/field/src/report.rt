@@ -32,7 +32,7 @@ fn row_of(tables: &Tables, trace: u8) -> Row
 
 impl<L: Link, M: Mode> Field<L, M> {
     // Fills one row for each trace and answers how many; further rows stay as they were. With fewer rows
-    // than traces it is refused, and no row changes.
+    // than traces it is refused, and no row changes. The rows are lent, since a field has no memory for a report.
     pub fn report(&self, rows: &mut [Row]) -> Result<u8, Refusal>
         ensures value { told result ≡ reported self.now.tables rows.old }
         ensures after { rows.new ≡ rows_after self.now.tables rows.old }
