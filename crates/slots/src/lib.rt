@@ -22,13 +22,6 @@ pub trait Matches<K> {
 #[derive(Clone, Copy, PartialEq, Eq, Debug)]
 pub struct Full;
 
-// The first empty place.
-fn first_empty<E>(slots: &[Option<E>]) -> Option<usize>
-    ensures { result ≡ position is_none slots.now }
-{
-    slots.iter().position(|slot| slot.is_none())
-}
-
 impl fmt::Display for Full {
     ghost output = { λ _. Some (codes "no place is empty") };
 
@@ -38,6 +31,13 @@ impl fmt::Display for Full {
 }
 
 impl Error for Full {}
+
+// The first empty place.
+fn first_empty<E>(slots: &[Option<E>]) -> Option<usize>
+    ensures { result ≡ position is_none slots.now }
+{
+    slots.iter().position(|slot| slot.is_none())
+}
 
 // Puts `entry` into the first empty place; a full table is refused and stays as it is.
 pub fn place<E: Copy>(slots: &mut [Option<E>], entry: E) -> Result<(), Full>
