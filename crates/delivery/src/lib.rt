@@ -12,7 +12,7 @@ use slots::Every;
 use tables::entries::{HandOn, Received, free};
 use tables::tables::{ENTRIES, Tables};
 
-// The hand-on that a copy carries out. No `From` serves, for it or the next: both types are of other crates.
+// The hand-on that a copy carries out. It and the next are no `From`: a message has two of them, as a copy and as an ack.
 pub fn handed(message: Message) -> HandOn
     ensures { result ≡ handed message }
 {

@@ -60,7 +60,8 @@ impl fmt::Display for Shown {
     }
 }
 
-// A line of the story: a call, or a report. It is a value, since lines stand in lists.
+// A line of the story: a call, or a report. It is a value, since lines stand in lists, and no `Option<Call>`, since a
+// report is not the want of a call.
 #[derive(Clone, Copy)]
 enum Line {
     Make(Call),

@@ -1,4 +1,5 @@
-// The calls that users make on a field that works.
+// The calls that users make on a field that works. Each takes plain numbers, as users have them: a struct of a station
+// and a trace, or of a sender and a receiver, would be made for one call and taken apart in it.
 ghost use Rattle.field.specs.Carried.{Carried};
 ghost use Rattle.protocol.specs.UserCalls.{dropping, erasing, giving_back, handing_on, making_use, opening};
 
@@ -22,8 +23,8 @@ impl<L: Link> Field<L, Working> {
         self.tables.open(station).ok_or(Refusal::TracesSpent)
     }
 
-    // Takes one more use of a trace at a station. This call and the next differ only in their check, which is all
-    // that there is to them.
+    // Takes one more use of a trace at a station. This call and the next differ in their check alone; with that as a
+    // parameter each would be as long as it is.
     pub fn use_trace(&mut self, station: u8, trace: u8) -> Result<(), Refusal>
         ensures { Carried L.Link.meaning (λ m. m) (making_use station trace) self.old self.new result }
     {

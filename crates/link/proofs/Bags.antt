@@ -4,6 +4,7 @@ use Rattle.std.proofs.lemmas.List.Sums.{sum_by-cons, sum_by_push}
 use Rattle.std.proofs.lemmas.Bool.Decides.{nat_tests}
 use Rattle.std.specs.List.{slice_get}
 use Rattle.slots.specs.Entries.{without}
+use Rattle.link.specs.contracts.message.MessagePartialEq.TheImpl.{ghosts}
 use Rattle.link.specs.Messages.{often, same, SameBag}
 use Rattle.link.specs.declared.message.Message.{Message}
 
@@ -64,3 +65,8 @@ sum_by-same_bag f (x ∷ xs) ys alike' =
     let rest : SameBag xs (without (same x) ys) =
     λ m. omega (arith, alike' m, often-cons m x xs, often-without m x ys there, often-cons m x (without (same x) ys)) in
     omega (arith, sum_by-cons f x xs, sum_by-same_bag f xs (without (same x) ys) rest, sum_by-without f x ys there)
+
+-- messages are equal for the code when they are the same
+pub same_eq : (k m : Message) → ghosts.eq m k ≡ same k m
+unfolding same
+same_eq k m = refl

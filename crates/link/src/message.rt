@@ -9,12 +9,12 @@ use std::fmt;
 // as one who refers to it, and clean to list it no longer; each has its ack.
 #[derive(Clone, Copy, PartialEq, Eq, Debug)]
 pub enum Kind {
-    Copy,
-    CopyAck,
-    Dirty,
-    DirtyAck,
-    Clean,
-    CleanAck,
+    Copy = 1,
+    CopyAck = 2,
+    Dirty = 3,
+    DirtyAck = 4,
+    Clean = 5,
+    CleanAck = 6,
 }
 
 // A number of no kind.
@@ -26,14 +26,7 @@ impl From<Kind> for u8 {
     ghost from_gives = { λ kind number. number ≡ kind_number kind };
 
     fn from(kind: Kind) -> u8 {
-        match kind {
-            Kind::Copy => 1,
-            Kind::CopyAck => 2,
-            Kind::Dirty => 3,
-            Kind::DirtyAck => 4,
-            Kind::Clean => 5,
-            Kind::CleanAck => 6,
-        }
+        kind as u8
     }
 }
 
@@ -95,7 +88,7 @@ pub struct Message {
 }
 
 impl Message {
-    // A message of one of the six kinds; all but copies and copy acks carry packet number 0.
+    // A message of one of the six kinds, with its parts as the radio has them; all but copies and copy acks carry packet number 0.
     pub fn new(kind: Kind, sender: u8, receiver: u8, trace: u8, packet: u32) -> Message
         ensures { result ≡ record { kind = kind_number kind; sender = sender; receiver = receiver; trace = trace; packet = carried kind packet } }
     {

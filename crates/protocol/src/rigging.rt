@@ -3,6 +3,7 @@ ghost use Rattle.std.specs.Prelude.{◌≡◌, ◌≤◌, MatchResult};
 ghost use Rattle.protocol.specs.Refusals.{fault, numbered};
 
 use crate::refusal::Refusal;
+use tables::tables::STATIONS;
 
 // An accepted rigging: 2 to 16 stations.
 #[derive(Clone, Copy)]
@@ -18,8 +19,7 @@ impl Rigging {
     pub fn new(stations: u8, first: u32) -> Result<Rigging, Refusal>
         ensures { MatchResult result (λ g. (g.stations ≡ stations) × (g.first ≡ first)) (λ e. (fault e ≡ numbered 20) × (2 ≤ stations → stations ≤ 16 → ⊥)) }
     {
-        // 16 is a rule of fields, and another than how many stations have a gate
-        if stations < 2 || stations > 16 {
+        if stations < 2 || usize::from(stations) > STATIONS {
             return Err(Refusal::StationCount);
         }
         Ok(Rigging { stations, first })

@@ -1,4 +1,5 @@
-// The checks of the calls, in their order, but for the gates of the link.
+// The checks of the calls, in their order, but for the gates of the link. They take the tables and plain numbers, as the
+// calls are given them. They are no methods of `Tables`, since refusals are of a crate above that one.
 ghost use Rattle.protocol.specs.Calls.{Answers};
 ghost use Rattle.protocol.specs.Known.{held_unused, known};
 ghost use Rattle.protocol.specs.UserCalls.{may_drop, may_erase, may_give_back, may_hand_on, may_use, number};

@@ -1,9 +1,10 @@
 -- What striking does to a table, place by place.
-use Rattle.std.proofs.Common.{◌≡◌, ℕ, suc, ◌-◌, ◌<◌, ◌≤◌, Bool, List, [], ◌∷◌, ◌++◌, length, get_or, take, drop, set, position, Some, None, Option, refl, ap, ◌∙◌, ⊎_elim, add-one, one-add, arith}
+use Rattle.std.proofs.Common.{◌≡◌, ℕ, suc, ◌-◌, ◌<◌, ◌≤◌, Bool, List, [], ◌∷◌, ◌++◌, length, get_or, take, drop, set, position, find, Some, None, Option, refl, ap, ◌∙◌, ⊎_elim, add-one, one-add, arith}
 use borrow.Rule.Slice.PartMut.{put_mid}
 use Rattle.std.specs.List.{position_or_len}
 use Rattle.std.proofs.lemmas.List.{append-nil, drop_all, drop-set, length-drop, take_rest, take-set}
 use Rattle.std.proofs.lemmas.Bool.{cases_Bool}
+use Rattle.std.specs.Option.{option_flatten}
 use Rattle.slots.specs.Entries.{first, hit, struck}
 use Rattle.slots.proofs.Positions.{position_none, position_some}
 
@@ -70,3 +71,10 @@ module _ {E : Type 0} where
 
     pub struck_none : (xs : List (Option E)) → None ≡ position (hit p) xs → struck p xs ≡ xs
     struck_none xs is = struck_past xs (position_none (hit p) xs is)
+
+    -- the same by the library's `find`
+    pub first_find : (xs : List (Option E)) → option_flatten (find (hit p) xs) ≡ first p xs
+    unfolding first
+    first_find [] = refl
+    first_find (None ∷ xs) = first_find xs
+    first_find (Some x ∷ xs) = grind (arith, first_find xs)

@@ -47,6 +47,7 @@ pub fn place<E: Copy>(slots: &mut [Option<E>], entry: E) -> Result<(), Full>
     ensures counts { (q : E → Bool) → times q slots.new ≡ times q slots.old + (if is_ok result then times q (Some entry ∷ []) else 0) }
 {
     let empty = first_empty(slots).ok_or(Full)?;
+    // by index, here and in `strike`: what a borrow by `iter_mut` or `get_mut` leaves of the other places is not proved
     slots[empty] = Some(entry);
     Ok(())
 }
@@ -76,8 +77,11 @@ fn find<K, E: Matches<K>>(slots: &[Option<E>], key: &K) -> Option<usize>
 pub fn first<K, E: Matches<K> + Copy>(slots: &[Option<E>], key: &K) -> Option<E>
     ensures { result ≡ first (E.Matches.fits key.now) slots.now }
 {
-    let place = find(slots, key)?;
-    slots[place]
+    slots
+        .iter()
+        .find(|slot| hits(*slot, key))
+        .copied()
+        .flatten()
 }
 
 // Takes the first entry that matches `key` out and returns it. The places behind it move up by one, so

@@ -9,7 +9,7 @@ use crate::keys::SentBy;
 use cells::{Cell, State};
 use slots::Exactly;
 
-// How many stations a field has at most.
+// How many stations a field has at most. That as many have a gate is a rule of links, with a number of its own.
 pub const STATIONS: usize = 16;
 // How many traces a field opens at most.
 pub const TRACES: usize = 32;
@@ -29,9 +29,9 @@ const UNOPENED: Trace = Trace {
     erased: false,
 };
 
-// The tables of a field: arrays of fixed sizes, which are rules of a field, with places that are empty or taken, of
-// which the rules speak too. Stations and traces go by their numbers. A station and a trace are two parameters here and
-// above, and so are a sender and a receiver: each call is given numbers, and a struct would be made there
+// The tables of a field: arrays, since their sizes are rules of a field, in a gauge's memory, and the rules speak of
+// their places. Stations and traces go by their numbers, for which there is a place also before one is opened. A station
+// and a trace are two parameters here and above: each call is given numbers, and a struct would be made there
 // (`let at = At { station, trace };`) only to be taken apart here.
 #[derive(Drop)]
 pub struct Tables {
@@ -91,8 +91,7 @@ impl Tables {
     pub fn set_cell(&mut self, station: u8, trace: u8, cell: Cell)
         ensures { self.new ≡ with_cell station trace cell self.old }
     {
-        // by index here and below, and not by `get_mut`, tried in `erase` and `spend`: what the borrow leaves of the
-        // array was not proved
+        // by index here and below, and not by `get_mut`, tried in each: what the borrow leaves of the array was not proved
         let (row, column) = (usize::from(station), usize::from(trace));
         if row < STATIONS && column < TRACES {
             self.cells[row][column] = cell;

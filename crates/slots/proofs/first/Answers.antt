@@ -1,9 +1,17 @@
-use Rattle.std.proofs.Common.{sym, ◌∙◌}
-use Rattle.slots.proofs.Strikes.{first_at, first_none}
+use Rattle.std.proofs.Common.{◌≡◌, find, ap, ◌∙◌, rules}
+use borrow.Author.Tests.{tests}
+use Rattle.std.specs.Option.{option_copied, option_flatten}
+use Rattle.std.proofs.lemmas.Iterator.{YieldsList-from_slice}
+use Rattle.std.proofs.lemmas.Iterator.Search.{find_from_yields_List}
+use Rattle.slots.specs.Entries.{hit}
+use Rattle.slots.proofs.Strikes.{first_find}
 use Rattle.slots.proofs.first.Goals as goal
 
-pub returns-in_err-place : goal.returns-in_err-place
-returns-in_err-place g c = c.from_residual.ensures ∙ sym (first_none _ _ c.in_err-place.ensures)
-
 pub returns : goal.returns
-returns g c = c.index-slots-place.is ∙ sym (first_at _ _ _ _ c.in_ok-place.ensures)
+returns g c =
+    let p = g.E.Matches.fits c.args.key.now in
+    let xs = c.args.slots.now in
+    let found : option_copied c.find.result ≡ find (hit p) xs =
+    find_from_yields_List (hit p) _ _ c.find.result c.find.ensures.ran (YieldsList-from_slice xs cc) (λ x b q k. search (rules, tests)) in
+    let read : c.flatten.result ≡ option_flatten (option_copied c.find.result) = search rules in
+    read ∙ ap option_flatten found ∙ first_find p xs
