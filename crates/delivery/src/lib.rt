@@ -12,7 +12,8 @@ use slots::Every;
 use tables::entries::{HandOn, Received, free};
 use tables::tables::{ENTRIES, Tables};
 
-// The hand-on that a copy carries out. It and the next are no `From`: a message has two of them, as a copy and as an ack.
+// The hand-on that a copy carries out. It and the next are no `From`: a message has two of them, as a copy and as an
+// ack.
 pub fn handed(message: Message) -> HandOn
     ensures { result ≡ handed message }
 {

@@ -88,7 +88,7 @@ pub struct Message {
 }
 
 impl Message {
-    // A message of one of the six kinds, with its parts as the radio has them; all but copies and copy acks carry packet number 0.
+    // A message of one of the six kinds; all but copies and copy acks carry packet number 0.
     pub fn new(kind: Kind, sender: u8, receiver: u8, trace: u8, packet: u32) -> Message
         ensures { result ≡ record { kind = kind_number kind; sender = sender; receiver = receiver; trace = trace; packet = carried kind packet } }
     {

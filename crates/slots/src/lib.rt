@@ -47,7 +47,8 @@ pub fn place<E: Copy>(slots: &mut [Option<E>], entry: E) -> Result<(), Full>
     ensures counts { (q : E → Bool) → times q slots.new ≡ times q slots.old + (if is_ok result then times q (Some entry ∷ []) else 0) }
 {
     let empty = first_empty(slots).ok_or(Full)?;
-    // by index, here and in `strike`: what a borrow by `iter_mut` or `get_mut` leaves of the other places is not proved
+    // by index, here and in `strike`: `iter_mut().find` here and `get_mut` there were tried, and what they leave of the
+    // other places was not proved
     slots[empty] = Some(entry);
     Ok(())
 }

@@ -91,7 +91,8 @@ impl Tables {
     pub fn set_cell(&mut self, station: u8, trace: u8, cell: Cell)
         ensures { self.new ≡ with_cell station trace cell self.old }
     {
-        // by index here and below, and not by `get_mut`, tried in each: what the borrow leaves of the array was not proved
+        // by index here and below, and not by `get_mut`, tried in each: what the borrow leaves of the array was not
+        // proved
         let (row, column) = (usize::from(station), usize::from(trace));
         if row < STATIONS && column < TRACES {
             self.cells[row][column] = cell;
