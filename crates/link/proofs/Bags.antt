@@ -1,26 +1,52 @@
 -- Messages that are the same, and how often one is in a list.
-use Rattle.std.proofs.Common.{◌≡◌, ℕ, zero, suc, ◌+◌, ◌<◌, true, cond, List, [], ◌∷◌, ◌++◌, Some, sum_by, sym, refl, ◌∙◌, arith}
+use Rattle.std.proofs.Common.{◌≡◌, ℕ, zero, suc, ◌+◌, ◌<◌, true, cond, List, [], ◌∷◌, ◌++◌, length, Some, sum_by, count_by, sym, refl, ◌∙◌, arith}
 use Rattle.std.proofs.lemmas.List.Sums.{sum_by-cons, sum_by_push}
 use Rattle.std.proofs.lemmas.Bool.Decides.{nat_tests}
+use Rattle.std.proofs.lemmas.List.Recursion.{is_count_by}
 use Rattle.std.specs.List.{slice_get}
 use Rattle.slots.specs.Entries.{without}
 use Rattle.link.specs.contracts.message.MessagePartialEq.TheImpl.{ghosts}
 use Rattle.link.specs.Messages.{often, same, SameBag}
 use Rattle.link.specs.declared.message.Message.{Message}
 
-pub same_is : (k m : Message) → same k m ≡ true → k ≡ m
+-- the fields of two messages are equal
+pub record Alike (k m : Message) : Type 0 where
+  pub kind : m.kind ≡ k.kind
+  pub sender : m.sender ≡ k.sender
+  pub receiver : m.receiver ≡ k.receiver
+  pub trace : m.trace ≡ k.trace
+  pub packet : m.packet ≡ k.packet
+
+pub alike : (k m : Message) → same k m ≡ true → Alike k m
 unfolding same
-same_is k m yes' =
-    let kind : k.kind ≡ m.kind = grind (arith, nat_tests) in
-    let sender : k.sender ≡ m.sender = grind (arith, nat_tests) in
-    let receiver : k.receiver ≡ m.receiver = grind (arith, nat_tests) in
-    let trace : k.trace ≡ m.trace = grind (arith, nat_tests) in
-    let packet : k.packet ≡ m.packet = grind (arith, nat_tests) in
-    λ i. record { kind = kind i; sender = sender i; receiver = receiver i; trace = trace i; packet = packet i }
+alike k m yes' = record {
+  kind = grind (arith, nat_tests);
+  sender = grind (arith, nat_tests);
+  receiver = grind (arith, nat_tests);
+  trace = grind (arith, nat_tests);
+  packet = grind (arith, nat_tests);
+}
+
+pub same_alike : (k m : Message) → Alike k m → same k m ≡ true
+unfolding same
+same_alike k m a = grind (arith, nat_tests)
+
+pub same_is : (k m : Message) → same k m ≡ true → k ≡ m
+same_is k m yes' = let a = alike k m yes' in λ i. record {
+  kind = sym a.kind i;
+  sender = sym a.sender i;
+  receiver = sym a.receiver i;
+  trace = sym a.trace i;
+  packet = sym a.packet i;
+}
 
 pub same_self : (m : Message) → same m m ≡ true
 unfolding same
 same_self m = grind (arith, nat_tests)
+
+-- a test that every message passes counts them all
+pub count_by-all : {X : Type 0} (xs : List X) → count_by (λ _. true) xs ≡ length xs
+count_by-all xs = sym (is_count_by length (λ _. true) refl (λ x ys. omega arith) xs)
 
 -- how often a message is in a list, element by element
 pub often-cons : (x m : Message) (ms : List Message) → often x (m ∷ ms) ≡ cond (same x m) 1 0 + often x ms

@@ -1,5 +1,5 @@
 -- Checks made in parts: what the first part refuses is refused, and what it lets pass is left to the rest.
-use Rattle.std.proofs.Common.{◌≡◌, false, List, [], ◌∷◌, ◌++◌, Some, None, Err, Option, refl, arith}
+use Rattle.std.proofs.Common.{◌≡◌, false, List, [], ◌∷◌, ◌++◌, Some, None, Ok, Err, Option, refl, arith}
 use Rattle.std.specs.List.{AllByRecursion}
 use Rattle.protocol.specs.Calls.{Check, first_refusal, verdict}
 use Rattle.protocol.specs.Refusals.{Fault}
@@ -18,6 +18,10 @@ passes (c ∷ cs) ds is = grind (arith, passes cs ds)
 pub refused_by : {A : Type 0} (o : Option Fault) (f : Fault) (a : A) → Err f ≡ verdict o a → o ≡ Some f
 refused_by None f a is = absurd cc
 refused_by (Some g) f a is = cc
+
+pub accepted_by : {A : Type 0} (o : Option Fault) (a x : A) → Ok x ≡ verdict o a → (o ≡ None) × (x ≡ a)
+accepted_by None a x is = (refl, cc)
+accepted_by (Some g) a x is = absurd cc
 
 -- accepted means that no condition holds
 pub no_condition : (cs : List Check) → first_refusal cs ≡ None → AllByRecursion (λ c. c.met ≡ false) cs

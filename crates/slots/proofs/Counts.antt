@@ -1,5 +1,5 @@
 -- How many entries a table has, and how many of them pass a test.
-use Rattle.std.proofs.Common.{◌≡◌, ℕ, ◌+◌, ◌<◌, ◌≤◌, Bool, cond, List, [], ◌∷◌, ◌++◌, length, get_or, take, drop, Some, None, count_by, Option, refl, ap, ◌∙◌, arith}
+use Rattle.std.proofs.Common.{◌≡◌, ℕ, ◌+◌, ◌<◌, ◌≤◌, Bool, false, cond, List, [], ◌∷◌, ◌++◌, length, get_or, take, drop, Some, None, count_by, Option, refl, ap, ◌∙◌, arith}
 use Rattle.std.specs.Option.{option_to_list}
 use Rattle.std.proofs.lemmas.List.{drop_more, take_more}
 use Rattle.std.proofs.lemmas.List.Sums.{sum_by-cons, sum_by-append, count_by-le-length}
@@ -65,3 +65,7 @@ module _ {E : Type 0} where
     count_by-hit (None ∷ xs) = omega (arith, sum_by-cons (λ o. cond (hit p o) 1 0) None xs, count_by-hit xs)
     count_by-hit (Some x ∷ xs) =
         omega (arith, sum_by-cons (λ o. cond (hit p o) 1 0) (Some x) xs, count_by-hit xs, times_some x xs)
+
+    -- where no entry passes, neither does the first
+    pub misses : (x : E) (xs : List (Option E)) → times p (Some x ∷ xs) ≡ 0 → (p x ≡ false) × (times p xs ≡ 0)
+    misses x xs none = (grind (arith, times_some x xs), omega (arith, times_some x xs))

@@ -1,9 +1,10 @@
 -- The laws of placing and striking that the layers above use: what each does to the count of every key,
 -- and, where the entries stand packed, to their order.
-use Rattle.std.proofs.Common.{◌≡◌, ℕ, zero, suc, ◌+◌, ◌<◌, Bool, true, cond, ltb, List, [], ◌∷◌, ◌++◌, length, is_some, Some, None, Option, sym, refl, ap, ◌∙◌, ⊎_elim, arith}
+use Rattle.std.proofs.Common.{◌≡◌, ℕ, zero, suc, ◌+◌, ◌<◌, Bool, true, cond, ltb, List, [], ◌∷◌, ◌++◌, length, get_or, is_some, Some, None, Option, sym, refl, ap, ◌∙◌, ⊎_elim, arith}
 use Rattle.std.proofs.lemmas.List.{append-nil, length_push, nil_from_length}
 use Rattle.std.proofs.lemmas.Bool.{cases_Bool, cond-false, cond-true, le-ltb}
 use Rattle.std.proofs.lemmas.Bool.Decides.{nat_tests}
+use Rattle.std.proofs.lemmas.Option.{slice_get-get_or}
 use Rattle.std.specs.List.{slice_get, prefix_len}
 use Rattle.std.specs.Option.{option_flatten}
 use Rattle.slots.specs.Entries.{entries, first, Packed, placed, struck, times, without}
@@ -125,3 +126,7 @@ module _ {E : Type 0} where
       ap (λ ys. slice_get ys (suc i)) none ∙ sym (ap (λ ys. slice_get ys i) none) ∙ get_packed xs i (leading_empty xs (sym packed) ∙ packed)
   get_packed (Some x ∷ xs) zero packed = refl
   get_packed (Some x ∷ xs) (suc i) packed = get_packed xs i (omega arith)
+
+  -- the same of a place within the table
+  pub nth_packed : (xs : List (Option E)) (i : ℕ) (d : Option E) → Packed xs → i < length xs → slice_get (entries xs) i ≡ get_or xs i d
+  nth_packed xs i d packed within = get_packed xs i packed ∙ ap option_flatten (slice_get-get_or xs i d within)

@@ -1,8 +1,10 @@
 -- What placing does to a table: it fills the first empty place.
-use Rattle.std.proofs.Common.{◌≡◌, ℕ, ◌<◌, ◌≤◌, List, [], ◌∷◌, length, set, is_none, position, Some, None, Option, refl, ap, arith}
+use Rattle.std.proofs.Common.{◌≡◌, ℕ, zero, suc, ◌+◌, ◌<◌, ◌≤◌, true, false, List, [], ◌∷◌, length, get_or, take, set, is_none, is_some, position, Some, None, Option, refl, ap, arith}
 use Rattle.std.specs.List.{position_or_len}
+use Rattle.std.specs.Option.{option_to_list}
+use Rattle.std.proofs.lemmas.List.{length-append, length-take}
 use Rattle.slots.specs.Entries.{entries, placed}
-use Rattle.slots.proofs.Counts.{entries_le}
+use Rattle.slots.proofs.Counts.{entries_le, entries_take_more}
 use Rattle.slots.proofs.Positions.{position_none, position_some}
 
 module _ {E : Type 0} where
@@ -30,7 +32,7 @@ module _ {E : Type 0} where
   full_first (None ∷ xs) past = absurd (omega arith)
   full_first (Some x ∷ xs) past = omega (arith, full_first xs (omega arith))
 
-  placed_full : (e : E) (xs : List (Option E)) → length xs ≤ length (entries xs) → placed e xs ≡ xs
+  pub placed_full : (e : E) (xs : List (Option E)) → length xs ≤ length (entries xs) → placed e xs ≡ xs
   unfolding entries placed
   placed_full e [] full = refl
   placed_full e (None ∷ xs) full = absurd (omega (arith, entries_le xs))
@@ -49,3 +51,25 @@ module _ {E : Type 0} where
 
   pub placed_none : (e : E) (xs : List (Option E)) → None ≡ position is_none xs → placed e xs ≡ xs
   placed_none e xs is = placed_full e xs (full_none xs is)
+
+  -- the first i places are taken, and so is the next
+  pub taken_more : (xs : List (Option E)) (i : ℕ) (d : Option E) → i < length xs → length (entries (take i xs)) ≡ i → is_some (get_or xs i d) ≡ true → length (entries (take (i + 1) xs)) ≡ i + 1
+  taken_more xs i d within front here = grind (arith, entries_take_more xs i d within, length-append (entries (take i xs)) (option_to_list (get_or xs i d)))
+
+  -- the first i places are taken, and the next is empty
+  pub placed_behind : (e : E) (xs : List (Option E)) (i : ℕ) (d : Option E) → i < length xs → length (entries (take i xs)) ≡ i → is_some (get_or xs i d) ≡ false → set xs i (Some e) ≡ placed e xs
+  unfolding entries placed
+  placed_behind e [] i d within front here = absurd (omega arith)
+  placed_behind e (None ∷ xs) zero d within front here = refl
+  placed_behind e (None ∷ xs) (suc i) d within front here = absurd (omega (arith, entries_le (take i xs), length-take i xs))
+  placed_behind e (Some x ∷ xs) zero d within front here = absurd cc
+  placed_behind e (Some x ∷ xs) (suc i) d within front here =
+      ap (λ ys. Some x ∷ ys) (placed_behind e xs i d (omega arith) (omega arith) here)
+
+  -- any empty place is room
+  pub room_at_any : (xs : List (Option E)) (i : ℕ) (d : Option E) → i < length xs → is_some (get_or xs i d) ≡ false → length (entries xs) < length xs
+  unfolding entries
+  room_at_any [] i d within here = absurd (omega arith)
+  room_at_any (None ∷ xs) i d within here = omega (arith, entries_le xs)
+  room_at_any (Some x ∷ xs) zero d within here = absurd cc
+  room_at_any (Some x ∷ xs) (suc i) d within here = omega (arith, room_at_any xs i d (omega arith) here)

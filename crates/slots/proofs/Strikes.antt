@@ -4,13 +4,15 @@ use borrow.Rule.Slice.PartMut.{put_mid}
 use Rattle.std.specs.List.{position_or_len}
 use Rattle.std.proofs.lemmas.List.{append-nil, drop_all, drop-set, length-drop, take_rest, take-set}
 use Rattle.std.proofs.lemmas.Bool.{cases_Bool}
+use Rattle.std.proofs.lemmas.Bool.Decides.{nat_tests}
 use Rattle.std.specs.Option.{option_flatten}
-use Rattle.slots.specs.Entries.{first, hit, struck}
+use Rattle.slots.specs.Entries.{entries, first, hit, struck, times}
+use Rattle.slots.proofs.Counts.{misses}
 use Rattle.slots.proofs.Positions.{position_none, position_some}
 
 module _ {E : Type 0} where
   -- the place is emptied, and what stands from there on is turned by one
-  gap_turned : (xs ys : List (Option E)) (i : ℕ) → i < length xs → ys ≡ drop 1 (take (length (set xs i None) - i) (drop i (set xs i None))) ++ take 1 (take (length (set xs i None) - i) (drop i (set xs i None))) → put_mid i (length (set xs i None) - i) (set xs i None) ys ≡ take i xs ++ (drop (suc i) xs ++ (None ∷ []))
+  pub gap_turned : (xs ys : List (Option E)) (i : ℕ) → i < length xs → ys ≡ drop 1 (take (length (set xs i None) - i) (drop i (set xs i None))) ++ take 1 (take (length (set xs i None) - i) (drop i (set xs i None))) → put_mid i (length (set xs i None) - i) (set xs i None) ys ≡ take i xs ++ (drop (suc i) xs ++ (None ∷ []))
   gap_turned xs ys i within turned =
       let rest : take (length (set xs i None) - i) (drop i (set xs i None)) ≡ None ∷ drop (suc i) xs =
       take_rest (set xs i None) i ∙ rw add-one at (drop-set xs i None within) in
@@ -71,6 +73,19 @@ module _ {E : Type 0} where
 
     pub struck_none : (xs : List (Option E)) → None ≡ position (hit p) xs → struck p xs ≡ xs
     struck_none xs is = struck_past xs (position_none (hit p) xs is)
+
+    -- the same by a count of 0
+    pub position_of_none : (xs : List (Option E)) → times p xs ≡ 0 → None ≡ position (hit p) xs
+    unfolding times entries
+    position_of_none [] none = refl
+    position_of_none (None ∷ xs) none = grind (arith, nat_tests, position_of_none xs)
+    position_of_none (Some x ∷ xs) none = grind (arith, nat_tests, position_of_none xs, misses p x xs none)
+
+    pub first_uncounted : (xs : List (Option E)) → times p xs ≡ 0 → first p xs ≡ None
+    first_uncounted xs none = first_none xs (position_of_none xs none)
+
+    pub struck_uncounted : (xs : List (Option E)) → times p xs ≡ 0 → struck p xs ≡ xs
+    struck_uncounted xs none = struck_none xs (position_of_none xs none)
 
     -- the same by the library's `find`
     pub first_find : (xs : List (Option E)) → option_flatten (find (hit p) xs) ≡ first p xs
