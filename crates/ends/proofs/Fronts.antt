@@ -29,6 +29,10 @@ unfolding fronts
 slot xs i None within is = grind (arith, entries_drop_more xs i None within, entries_take_more xs i None within, append-nil (entries (take i xs)))
 slot xs i (Some m) within is = grind (arith, entries_drop_more xs i None within, entries_take_more xs i None within)
 
+-- what slot i offers, and then what the later ones do
+pub fronts_next : (xs : List (Option Message)) (i : ℕ) → i < length xs → fronts_from xs i ≡ cons_option (front_at xs i) (fronts_from xs (i + 1))
+fronts_next xs i within = slot xs i _ within (sym (ap option_flatten (slice_get-get_or xs i None within)))
+
 module _ (xs : List (Option Message)) (i : ℕ) (within : i < length xs) where
   -- an empty slot offers nothing
   pub fronts_empty : get_or xs i None ≡ None → fronts_from xs i ≡ fronts_from xs (i + 1)
@@ -48,8 +52,7 @@ module _ (xs : List (Option Message)) (i : ℕ) (within : i < length xs) where
 fronts_slots : (xs : List (Option Message)) (n i : ℕ) → i + n ≡ length xs → filter_map (front_at xs) (range_with_len i n) ≡ fronts_from xs i
 fronts_slots xs zero i all = sym (fronts_end xs i (omega arith))
 fronts_slots xs (suc n) i all =
-    ap (cons_option (front_at xs i)) (fronts_slots xs n (i + 1) (omega arith))
-    ∙ sym (slot xs i _ (omega arith) (sym (ap option_flatten (slice_get-get_or xs i None (omega arith)))))
+    ap (cons_option (front_at xs i)) (fronts_slots xs n (i + 1) (omega arith)) ∙ sym (fronts_next xs i (omega arith))
 
 -- the slots at the front have the offers
 pub fronts_of_slots : (xs : List (Option Message)) (n : ℕ) → length xs ≡ n → filter_map (front_at xs) (range_with_len 0 n) ≡ fronts [] (entries xs)

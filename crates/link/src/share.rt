@@ -81,10 +81,11 @@ impl<L: Link> Link for Share<L> {
     }
 
     fn gate(&self, station: u8) -> Gate {
+        // before the layers below are asked, each of which would count
+        gate_of(station, Ok(()))?;
         if self.below.waiting_from(station) >= u16::from(self.limit()) {
             return Err(GateClosed { depth: 0 });
         }
-        let below = self.below.gate(station).map_err(GateClosed::deeper);
-        gate_of(station, below)
+        self.below.gate(station).map_err(GateClosed::deeper)
     }
 }

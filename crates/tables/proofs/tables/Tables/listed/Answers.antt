@@ -1,18 +1,23 @@
-use Rattle.std.proofs.Common.{ℕ, refl, ◌∙◌, rules}
+use Rattle.std.proofs.Common.{ℕ, cond, refl, ◌∙◌, arith, rules}
 use borrow.Author.Tests.{tests}
-use Rattle.std.proofs.lemmas.Iterator.{YieldsList-from_range}
-use Rattle.std.proofs.lemmas.Iterator.Consumers.{YieldsList-from_filter, count_from_yields_List}
-use Rattle.std.proofs.lemmas.List.Sums.{length-filter}
+use Rattle.std.proofs.lemmas.Iterator.{YieldsList-from_map, YieldsList-from_range}
+use Rattle.std.proofs.lemmas.Iterator.Consumers.{fits_by_from_yields_list, sum_by_from_yields_List}
+use Rattle.std.proofs.lemmas.List.Sums.{count_by-le-length}
 use Rattle.std.specs.List.{range_with_len}
 use Rattle.tables.specs.Kept.{cell_at}
 use Rattle.tables.proofs.Listing.{listed_counted}
 use Rattle.tables.proofs.tables.Tables.listed.Goals as goal
 
+pub sum-requires-clause-fits : goal.sum-requires-clause-fits
+sum-requires-clause-fits c =
+    let lists = λ (s : ℕ). (cell_at c.args.self.now s c.args.trace).listed in
+    fits_by_from_yields_list (λ s. cond (lists s) 1 0) (range_with_len 0 16) c.map.result 256
+    (YieldsList-from_map _ (λ s. cond (lists s) 1 0) (YieldsList-from_range 0 16 16 c.map.ensures.source refl) c.map.ensures.closure (λ x r q k. search (rules, tests)))
+    (omega (arith, count_by-le-length lists (range_with_len 0 16)))
+
 pub returns : goal.returns
 returns c =
-    let T = c.args.self.now in
-    let t = c.args.trace in
-    let lists = λ (s : ℕ). (cell_at T s t).listed in
-    count_from_yields_List c.filter.result _ c.count.ensures.ran
-    (YieldsList-from_filter _ lists (YieldsList-from_range 0 16 16 c.filter.ensures.source refl) c.filter.ensures.closure (λ x r q k. search (rules, tests)))
-    ∙ length-filter lists (range_with_len 0 16) ∙ listed_counted T t 16
+    let lists = λ (s : ℕ). (cell_at c.args.self.now s c.args.trace).listed in
+    sum_by_from_yields_List (λ s. cond (lists s) 1 0) (range_with_len 0 16) c.map.result _ c.sum.ensures.ran
+    (YieldsList-from_map _ (λ s. cond (lists s) 1 0) (YieldsList-from_range 0 16 16 c.map.ensures.source refl) c.map.ensures.closure (λ x r q k. search (rules, tests)))
+    ∙ listed_counted c.args.self.now c.args.trace 16
