@@ -16,8 +16,8 @@ pub struct Fronts;
 
 pub type Row = End<Fronts>;
 
-// The message in slot `i` if no older one has its sender and receiver. The slots before it are read too, so both
-// functions below go over the numbers of the slots.
+// The message in slot `i` if no older one has its sender and receiver. The slots before it are read too, so what goes
+// over the slots below goes over their numbers.
 fn front(slots: &[Option<Message>], i: usize) -> Option<Message>
     ensures { result ≡ front_at slots.now i }
 {

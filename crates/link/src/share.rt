@@ -81,7 +81,7 @@ impl<L: Link> Link for Share<L> {
     }
 
     fn gate(&self, station: u8) -> Gate {
-        // before the layers below are asked, each of which would count
+        // first, so that nothing is counted for a station that has no gate
         gate_of(station, Ok(()))?;
         if self.below.waiting_from(station) >= u16::from(self.limit()) {
             return Err(GateClosed { depth: 0 });

@@ -65,7 +65,7 @@ impl Places {
     pub fn gate(&self, station: u8) -> Gate
         ensures { result ≡ end_gate (entries self.now.slots) station }
     {
-        // before the count, which a station that has no gate would wait for in vain
+        // first, so that nothing is counted for a station that has no gate
         gate_of(station, Ok(()))?;
         if self.waiting() == PLACES as u16 {
             return Err(GateClosed { depth: 0 });

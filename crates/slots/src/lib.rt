@@ -85,11 +85,7 @@ fn find<K, E: Matches<K>>(slots: &[Option<E>], key: &K) -> Option<usize>
 pub fn first<K, E: Matches<K> + Copy>(slots: &[Option<E>], key: &K) -> Option<E>
     ensures { result ≡ first (E.Matches.fits key.now) slots.now }
 {
-    slots
-        .iter()
-        .find(|slot| hits(*slot, key))
-        .copied()
-        .flatten()
+    *slots.iter().find(|slot| hits(*slot, key))?
 }
 
 // Takes the first entry that matches `key` out and returns it. The places behind it move up by one, so

@@ -1,4 +1,4 @@
--- Counting the stations that an owner lists, as the library counts.
+-- Counting the stations that an owner lists, one more and as the library counts.
 use Rattle.std.proofs.Common.{◌≡◌, ℕ, zero, suc, ◌+◌, Bool, cond, count_by, refl, ap, ◌∙◌, add-one, arith}
 use Rattle.std.specs.List.{range_with_len}
 use Rattle.std.proofs.lemmas.List.{map-id}
