@@ -32,7 +32,7 @@ fn front(slots: &[Option<Message>], i: usize) -> Option<Message>
     Some(message)
 }
 
-// The offer at a place: a loop, since `filter_map` with `nth` takes twice as long over a row that is nearly empty.
+// The offer at a place: a loop, since `filter_map` with `nth` takes half as long again over a row that is nearly empty.
 fn nth_front(slots: &[Option<Message>], place: u32) -> Option<Message>
     ensures { result ≡ slice_get (fronts [] (entries slots.now)) place }
 {
